@@ -1,0 +1,5 @@
+pub mod Faults
+pub mod Contents
+pub mod Pieces
+pub mod Memory
+pub mod Listed
