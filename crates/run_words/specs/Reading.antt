@@ -1,0 +1,59 @@
+-- What the words of a command line ask for, read from the first word on. It agrees with the relation `AskForRun`.
+use Rattle.std.specs.Prelude.{ℕ, ◌&&◌, nat_le, Bool, true, false, if◌then◌else◌, ◌==◌, List, [], ◌∷◌, length, Option, None, Some, is_none, unwrap_or, option_and_then, codes}
+use Rattle.std.specs.Option.{option_map}
+use Rattle.std.specs.List.{list_all}
+use Rattle.std.specs.Str.{bytes_eq}
+use Rattle.run_words.specs.Words.{Asked, is_digit, number_of}
+
+-- What the words so far have said.
+pub record Said : Type 0 where
+  pub file : Option (List ℕ)
+  pub ranks : Option ℕ
+  pub journal : Option (List ℕ)
+
+abbrev pub nothing_said : Said
+nothing_said = record { file = None; ranks = None; journal = None }
+
+abbrev pub is_plain : List ℕ → Bool
+is_plain [] = false
+is_plain (b ∷ bs) = if b == 45 then false else true
+
+-- 1 to 20 decimal digits
+abbrev pub is_number : List ℕ → Bool
+is_number word = nat_le 1 (length word) && nat_le (length word) 20 && list_all is_digit word
+
+abbrev pub is_ranks_value : List ℕ → Bool
+is_ranks_value word = is_number word && nat_le 1 (number_of word) && nat_le (number_of word) 256
+
+-- what is said with one part more, if it may stand there
+abbrev pub with_file : Said → List ℕ → Option Said
+with_file said name = if is_plain name && is_none said.file then Some (record said { file = Some name }) else None
+
+-- the number that a value of `--ranks` writes, if it may be one
+abbrev pub ranks_said : List ℕ → Option ℕ
+ranks_said value = if is_ranks_value value then Some (number_of value) else None
+
+abbrev pub with_ranks : Said → List ℕ → Option Said
+with_ranks said value =
+    if is_none said.ranks && is_ranks_value value then Some (record said { ranks = Some (number_of value) }) else None
+
+abbrev pub with_journal : Said → List ℕ → Option Said
+with_journal said name = if is_plain name && is_none said.journal then Some (record said { journal = Some name }) else None
+
+-- what is said with all of these words
+abbrev pub said_with : List (List ℕ) → Said → Option Said
+said_with [] said = Some said
+said_with (word ∷ []) said = with_file said word
+said_with (word ∷ value ∷ words) said =
+    if bytes_eq word (codes "--ranks") then option_and_then (said_with words) (with_ranks said value)
+    else (if bytes_eq word (codes "--journal") then option_and_then (said_with words) (with_journal said value)
+    else option_and_then (said_with (value ∷ words)) (with_file said word))
+
+-- one rank where the words don't say how many
+abbrev pub asked_by : Said → Option Asked
+asked_by said = option_map (λ file. record { file = file; ranks = unwrap_or said.ranks 1; journal = said.journal }) said.file
+
+abbrev pub asked_of : List (List ℕ) → Option Asked
+asked_of [] = None
+asked_of (word ∷ words) =
+    if bytes_eq word (codes "run") then option_and_then asked_by (said_with words nothing_said) else None

@@ -1,0 +1,66 @@
+ghost use Rattle.std.specs.Prelude.{◌≡◌, ◌≤◌, None, Some, IfOk, IfSome, IfNone, IsErrOf};
+ghost use Rattle.run_words.specs.Words.{AskForRun};
+ghost use Rattle.run_words.specs.Asks.{AreAccepted, bytes_of_words, IsAccepted, IsJournalOf};
+
+use crate::reading::run_of;
+use std::alloc::{AllocError, Global};
+use thiserror::Error;
+
+/// What accepted words ask for.
+#[derive(Debug, Drop)]
+pub struct Command {
+    pub file: String,
+    pub ranks: u16,
+}
+
+/// Why no command was read.
+#[derive(Debug, Drop, Error)]
+pub enum WordsError {
+    #[error("usage: ampi run [--ranks N] [--journal FILE] FILE")]
+    Bad,
+    #[error("out of memory")]
+    Memory,
+}
+
+impl From<AllocError> for WordsError {
+    ghost use Rattle.std.specs.Prelude.{◌≡◌};
+    ghost use Rattle.run_words.specs.declared.command.WordsError.TheVariants.{Memory};
+
+    ghost from_gives = { λ _ e. e ≡ Memory };
+
+    fn from(_error: AllocError) -> WordsError {
+        WordsError::Memory
+    }
+}
+
+/// Reads the words of a command line, without the program's name. Only the file's name takes memory.
+pub fn read_words(alloc: Global, words: &Vec<String>) -> Result<Command, WordsError>
+    ensures accepted { IfOk result (IsAccepted (bytes_of_words words.now)) }
+    ensures bad { IsErrOf result WordsError.Bad → (asked : _) → AskForRun (bytes_of_words words.now) asked → ⊥ }
+    ensures memory { IsErrOf result WordsError.Memory → AreAccepted (bytes_of_words words.now) }
+{
+    let run = run_of(words).ok_or(WordsError::Bad)?;
+    Ok(Command {
+        file: String::from_str(alloc, run.file)?,
+        ranks: run.ranks,
+    })
+}
+
+/// The value of `--journal` of accepted words, and `None` too for refused words. It takes no memory.
+pub fn journal_name(words: &Vec<String>) -> Option<&str>
+    ensures some { IfSome result (λ name. IsJournalOf (bytes_of_words words.now) (Some name.now)) }
+    ensures none { IfNone result ((asked : _) → AskForRun (bytes_of_words words.now) asked → asked.journal ≡ None) }
+{
+    run_of(words)?.journal
+}
+
+/// A law: words ask for one run at most.
+pub fn one_meaning()
+    ensures { (words : _) (a b : _) → AskForRun words a → AskForRun words b
+        → (a.file ≡ b.file) × (a.ranks ≡ b.ranks) × (a.journal ≡ b.journal) }
+{}
+
+/// A law: words ask for 1 to 256 ranks.
+pub fn ranks_are_few()
+    ensures { (words : _) (asked : _) → AskForRun words asked → (1 ≤ asked.ranks) × (asked.ranks ≤ 256) }
+{}

@@ -1,0 +1,140 @@
+ghost use Rattle.std.specs.Prelude.{◌≡◌, ◌≤◌, ◌∷◌, length, map, string_bytes, None, IfSome, MatchOption};
+ghost use Rattle.std.specs.Option.{option_map};
+ghost use Rattle.run_words.specs.Reading.{Said, nothing_said, is_number as is_number_lem, is_plain as is_plain_lem, ranks_said, with_file as with_file_lem, with_ranks as with_ranks_lem, with_journal as with_journal_lem, said_with, asked_of};
+ghost use Rattle.run_words.specs.Views.{said_by, asked_in};
+
+/// What accepted words ask for, borrowed from them.
+#[derive(Clone, Copy)]
+pub struct Run<'a> {
+    pub file: &'a str,
+    pub ranks: u16,
+    pub journal: Option<&'a str>,
+}
+
+/// What the words so far have said.
+#[derive(Clone, Copy)]
+struct Found<'a> {
+    file: Option<&'a str>,
+    ranks: Option<u16>,
+    journal: Option<&'a str>,
+}
+
+/// What the words ask for, if they are accepted.
+pub fn run_of(words: &[String]) -> Option<Run<'_>>
+    ensures { option_map asked_in result ≡ asked_of (map string_bytes words.now) }
+{
+    let (first, parts) = words.split_first()?;
+    if first.as_str() != "run" {
+        return None;
+    }
+    let found = found_in(parts)?;
+    Some(Run {
+        file: found.file?,
+        ranks: found.ranks.unwrap_or(1),
+        journal: found.journal,
+    })
+}
+
+/// What the words behind `run` say, if each may stand where it stands.
+fn found_in(words: &[String]) -> Option<Found<'_>>
+    ensures { option_map said_by result ≡ said_with (map string_bytes words.now) nothing_said }
+{
+    let mut found = Found {
+        file: None,
+        ranks: None,
+        journal: None,
+    };
+    let mut rest = words;
+    while let Some((word, after)) = rest.split_first() {
+        (found, rest) = with_part(found, word, after)?;
+    }
+    Some(found)
+}
+
+/// What is said with the part that begins with `word`, and the words behind that part.
+fn with_part<'a>(
+    found: Found<'a>,
+    word: &'a str,
+    after: &'a [String],
+) -> Option<(Found<'a>, &'a [String])>
+    ensures reads { MatchOption result
+        (said_with (word.now ∷ map string_bytes after.now) (said_by found.entry) ≡ None)
+        (λ p. said_with (word.now ∷ map string_bytes after.now) (said_by found.entry)
+        ≡ said_with (map string_bytes p.1.now) (said_by p.0)) }
+    ensures shorter { IfSome result (λ p. length p.1.now ≤ length after.now) }
+{
+    if word == "--ranks" {
+        let (value, rest) = after.split_first()?;
+        return Some((with_ranks(found, value)?, rest));
+    }
+    if word == "--journal" {
+        let (name, rest) = after.split_first()?;
+        return Some((with_journal(found, name)?, rest));
+    }
+    Some((with_file(found, word)?, after))
+}
+
+/// What is said with a source's name, which may stand once.
+fn with_file<'a>(found: Found<'a>, name: &'a str) -> Option<Found<'a>>
+    ensures { option_map said_by result ≡ with_file_lem (said_by found.entry) name.now }
+{
+    if !is_plain(name) || found.file.is_some() {
+        return None;
+    }
+    Some(Found {
+        file: Some(name),
+        ..found
+    })
+}
+
+/// What is said with a value of `--ranks`, which may stand once.
+fn with_ranks<'a>(found: Found<'a>, value: &str) -> Option<Found<'a>>
+    ensures { option_map said_by result ≡ with_ranks_lem (said_by found.entry) value.now }
+{
+    if found.ranks.is_some() {
+        return None;
+    }
+    Some(Found {
+        ranks: Some(ranks_in(value)?),
+        ..found
+    })
+}
+
+/// What is said with a value of `--journal`, which may stand once.
+fn with_journal<'a>(found: Found<'a>, name: &'a str) -> Option<Found<'a>>
+    ensures { option_map said_by result ≡ with_journal_lem (said_by found.entry) name.now }
+{
+    if !is_plain(name) || found.journal.is_some() {
+        return None;
+    }
+    Some(Found {
+        journal: Some(name),
+        ..found
+    })
+}
+
+/// The number that a value of `--ranks` writes, if it may be one.
+fn ranks_in(value: &str) -> Option<u16>
+    ensures { result ≡ ranks_said value.now }
+{
+    if !is_number(value) {
+        return None;
+    }
+    let ranks = value.parse().ok()?;
+    (1..=256).contains(&ranks).then_some(ranks)
+}
+
+/// Whether a word is 1 to 20 decimal digits.
+fn is_number(word: &str) -> bool
+    ensures { result ≡ is_number_lem word.now }
+{
+    let digits = word.as_bytes();
+    (1..=20).contains(&digits.len()) && digits.iter().all(|b| b.is_ascii_digit())
+}
+
+/// Whether a word may be a file's name: it isn't empty, and no dash begins it.
+fn is_plain(word: &str) -> bool
+    ensures { result ≡ is_plain_lem word.now }
+{
+    word.as_bytes().first().is_some_and(|b| *b != b'-')
+}
