@@ -1,0 +1,7 @@
+pub mod BlankLaws
+pub mod StringLaws
+pub mod LexemeLaws
+pub mod NumberLaws
+pub mod PartLaws
+pub mod ProgramLaws
+pub mod StepLaws
