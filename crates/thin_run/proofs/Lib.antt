@@ -1,0 +1,4 @@
+pub mod StepLemmas
+pub mod GroupLemmas
+pub mod ToldLemmas
+pub mod WholeLemmas
