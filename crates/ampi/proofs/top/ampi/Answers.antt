@@ -1,0 +1,23 @@
+use Rattle.std.proofs.Common.{ap, ◌∙◌, Err}
+use Rattle.ampi.proofs.AnswerLemmas.{few-asked, told-usage, usage-comes, comes, nothing-comes}
+use Rattle.ampi.proofs.top.ampi.Goals as goal
+
+pub run_file-requires : goal.run_file-requires
+run_file-requires g c = few-asked _ _ c.in-Ok.ensures.accepted
+
+pub returns-in-Ok-clause-usage : goal.returns-in-Ok-clause-usage
+returns-in-Ok-clause-usage g c = λ usage.
+    usage-comes _ _ _ c.run_file.result (c.run_file.ensures.answers _ c.in-Ok.ensures.accepted) usage
+
+pub returns-in-Ok-clause-complete : goal.returns-in-Ok-clause-complete
+returns-in-Ok-clause-complete g c = λ no_rise.
+    comes _ _ _ c.run_file.result (c.run_file.ensures.answers _ c.in-Ok.ensures.accepted)
+    (λ file is. no_rise (c.run_file.ensures.read_fault file is))
+
+pub returns-in-Err-Bad-clause-answers : goal.returns-in-Err-Bad-clause-answers
+returns-in-Err-Bad-clause-answers g c =
+    c.refuse.ensures.told _ _ _ (told-usage _ (c.read_words.ensures.bad (c.in-Err-Bad.is ∙ ap Err c.in-Err-Bad.field-0-is)))
+
+pub returns-in-Err-Bad-clause-complete : goal.returns-in-Err-Bad-clause-complete
+returns-in-Err-Bad-clause-complete g c = λ no_rise.
+    nothing-comes _ _ c.refuse.result (c.read_words.ensures.bad (c.in-Err-Bad.is ∙ ap Err c.in-Err-Bad.field-0-is))

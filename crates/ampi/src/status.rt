@@ -1,0 +1,38 @@
+ghost use Rattle.std.specs.Prelude.{◌≡◌};
+ghost use Rattle.ampi.specs.Status.{number_of};
+
+/// The program's answer.
+#[derive(Clone, Copy, Debug, PartialEq, Eq)]
+pub enum Status {
+    /// Every rank ended.
+    Done,
+    /// The words ask for nothing that is built.
+    Usage,
+    /// The file of this number, from 0, could not be read.
+    ReadFault { file: u32 },
+    /// The file has more bytes than a source may have.
+    TooLong { file: u32 },
+    /// The source is refused, at this line and for this cause.
+    Source { file: u32, line: u32, cause: u16 },
+    /// The output or the journal could not be written.
+    WriteFault,
+    /// Memory ran out.
+    NoMemory,
+}
+
+impl Status {
+    /// The number that the process ends with.
+    pub fn number(self) -> u8
+        ensures { result ≡ number_of self }
+    {
+        match self {
+            Status::Done => 0,
+            Status::Usage => 1,
+            Status::ReadFault { .. } => 2,
+            Status::TooLong { .. } => 3,
+            Status::Source { .. } => 4,
+            Status::WriteFault => 10,
+            Status::NoMemory => 11,
+        }
+    }
+}

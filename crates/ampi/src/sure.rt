@@ -1,0 +1,23 @@
+ghost use Rattle.std.specs.Prelude.{Some};
+ghost use Rattle.run_words.specs.Asks.{bytes_of_words};
+ghost use Rattle.ampi.specs.Answers.{IsAccepted};
+ghost use Rattle.ampi.specs.Yields.{IsDoneOrNoMemory};
+
+use crate::{Status, ampi};
+use am_io::{SureFiles, SureSink};
+use std::alloc::Global;
+
+/// The program over files, an output and a journal that never fail: accepted words and an accepted source are run to the
+/// end, unless memory runs out.
+pub fn ampi_surely(
+    alloc: Global,
+    words: &Vec<String>,
+    files: &mut SureFiles,
+    out: &mut SureSink,
+    journal: &mut SureSink,
+) -> Status
+    ensures complete { (asked : _) (program : _)
+        → IsAccepted (bytes_of_words words.now) (Some files.old) asked program → IsDoneOrNoMemory result }
+{
+    ampi(alloc, words, files, out, journal)
+}

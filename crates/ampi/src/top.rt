@@ -1,0 +1,135 @@
+ghost use Rattle.std.specs.Prelude.{◌≡◌, ◌≤◌, ◌⊎◌, ℕ, string_bytes};
+ghost use Rattle.am_io.specs.Faults.{Rose};
+ghost use Rattle.run_words.specs.Asks.{bytes_of_words, IsAccepted as IsAskedBy};
+ghost use Rattle.ampi.specs.Answers.{Answers, IsUsage, IsLoaded};
+ghost use Rattle.ampi.specs.Runs.{puts};
+ghost use Rattle.ampi.specs.Yields.{Yields, Comes};
+
+use crate::Status;
+use crate::refusal::{refuse, refuse_file};
+use crate::run::put_run;
+use am_io::{Files, LoadError, SayError, Sink};
+use run_words::{Command, WordsError, read_words};
+use std::alloc::Global;
+use thin_form::{ReadError, read};
+
+/// The longest source, in bytes.
+const SOURCE_LIMIT: u64 = 1_048_576;
+
+/// The usage text.
+const USAGE: &[u8] =
+    b"usage: ampi run [options] FILE...\n       ampi code FILE...\n       ampi make-schedule --seed S --events M --ranks N --procs P\n";
+
+/// The program over any files, output and journal. `words` are the command line without the program's name.
+pub fn ampi<F: Files, K: Sink, J: Sink>(
+    alloc: Global,
+    words: &Vec<String>,
+    files: &mut F,
+    out: &mut K,
+    journal: &mut J,
+) -> Status
+    // What was put at each answer, and what it tells of the words and files. At `Done` it is the headline.
+    ensures answers { Answers (bytes_of_words words.now) (F.held files.old)
+        (puts (K.written out.old) (K.written out.new) (J.written journal.old) (J.written journal.new)) result }
+
+    // When each answer comes: it yields to no other but a write that fails and want of memory.
+    ensures usage { IsUsage (bytes_of_words words.now) → Yields Status.Usage result }
+    ensures complete { (Rose (F.faults files.old) (F.faults files.new) → ⊥)
+        → Comes (bytes_of_words words.now) (F.held files.old) result }
+    ensures read_fault { (file : ℕ) → result ≡ Status.ReadFault file → Rose (F.faults files.old) (F.faults files.new) }
+    ensures write_fault { result ≡ Status.WriteFault
+        → Rose (K.faults out.old) (K.faults out.new) ⊎ Rose (J.faults journal.old) (J.faults journal.new) }
+    ensures kept { (result ≡ Status.WriteFault → ⊥)
+        → (K.faults out.new ≡ K.faults out.old) × (J.faults journal.new ≡ J.faults journal.old) }
+{
+    match read_words(alloc, words) {
+        Ok(command) => run_file(alloc, &command, files, out, journal),
+        Err(WordsError::Bad) => refuse(out, USAGE, Status::Usage),
+        Err(WordsError::Memory) => Status::NoMemory,
+    }
+}
+
+fn run_file<F: Files, K: Sink, J: Sink>(
+    alloc: Global,
+    command: &Command,
+    files: &mut F,
+    out: &mut K,
+    journal: &mut J,
+) -> Status
+    requires { command.now.ranks ≤ 256 }
+    ensures answers { (words : _) → IsAskedBy words command.now → Answers words (F.held files.old)
+        (puts (K.written out.old) (K.written out.new) (J.written journal.old) (J.written journal.new)) result }
+    ensures read_fault { (file : ℕ) → result ≡ Status.ReadFault file → Rose (F.faults files.old) (F.faults files.new) }
+    ensures write_fault { result ≡ Status.WriteFault
+        → Rose (K.faults out.old) (K.faults out.new) ⊎ Rose (J.faults journal.old) (J.faults journal.new) }
+    ensures kept { (result ≡ Status.WriteFault → ⊥)
+        → (K.faults out.new ≡ K.faults out.old) × (J.faults journal.new ≡ J.faults journal.old) }
+{
+    let name = command.file.as_str();
+    match files.load(alloc, name, SOURCE_LIMIT) {
+        Ok(text) if text.len() as u64 > SOURCE_LIMIT => {
+            refuse_file(
+                alloc,
+                out,
+                b"ampi: ",
+                name,
+                b" is too long\n",
+                Status::TooLong { file: 0 },
+            )
+        }
+        Ok(text) => run_text(alloc, command, text.as_slice(), out, journal),
+        Err(LoadError::Failed) => {
+            refuse_file(
+                alloc,
+                out,
+                b"ampi: cannot read ",
+                name,
+                b"\n",
+                Status::ReadFault { file: 0 },
+            )
+        }
+        Err(LoadError::Memory) => Status::NoMemory,
+    }
+}
+
+fn run_text<K: Sink, J: Sink>(
+    alloc: Global,
+    command: &Command,
+    text: &[u8],
+    out: &mut K,
+    journal: &mut J,
+) -> Status
+    requires { command.now.ranks ≤ 256 }
+    ensures answers { (words : _) (held : _) → IsAskedBy words command.now → IsLoaded held (string_bytes command.now.file) text.now
+        → Answers words held
+        (puts (K.written out.old) (K.written out.new) (J.written journal.old) (J.written journal.new)) result }
+    ensures no_read_fault { (file : ℕ) → result ≡ Status.ReadFault file → ⊥ }
+    ensures write_fault { result ≡ Status.WriteFault
+        → Rose (K.faults out.old) (K.faults out.new) ⊎ Rose (J.faults journal.old) (J.faults journal.new) }
+    ensures kept { (result ≡ Status.WriteFault → ⊥)
+        → (K.faults out.new ≡ K.faults out.old) × (J.faults journal.new ≡ J.faults journal.old) }
+{
+    match read(alloc, text) {
+        Ok(program) => match put_run(alloc, &program, command.ranks, out, journal) {
+            Ok(_) => Status::Done,
+            Err(SayError::Failed) => Status::WriteFault,
+            Err(SayError::Memory) => Status::NoMemory,
+        },
+        Err(ReadError::NotBuilt) => {
+            let refused = Status::Source {
+                file: 0,
+                line: 1,
+                cause: 99,
+            };
+            refuse_file(
+                alloc,
+                out,
+                b"ampi: ",
+                command.file.as_str(),
+                b":1: source form not built\n",
+                refused,
+            )
+        }
+        Err(ReadError::Memory) => Status::NoMemory,
+    }
+}
