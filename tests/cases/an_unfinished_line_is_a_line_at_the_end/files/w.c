@@ -1,0 +1,5 @@
+int main(void) {
+	printf("a\n\nb");
+	printf("c");
+	return 2147483647;
+}
