@@ -1,2 +1,4 @@
+pub mod Operators
 pub mod Run
+pub mod Need
 pub mod Lines

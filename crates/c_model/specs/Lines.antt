@@ -3,7 +3,7 @@
 use Rattle.std.specs.Prelude.{ℕ, ◌≡◌, ◌≢◌, ◌<◌, ◌≤◌, ◌==◌, if◌then◌else◌, List, [], ◌∷◌, ◌++◌, length}
 use Rattle.std.specs.List.{flat_map, AllByRecursion}
 use Rattle.c_model.specs.declared.tree.Ending.{Ending}
-use Rattle.c_model.specs.declared.tree.Ending.TheVariants.{Paused, Ended}
+use Rattle.c_model.specs.declared.tree.Ending.TheVariants.{Paused, Ended, Trapped}
 use Rattle.c_model.specs.Run.{Outcome}
 
 -- a line and what ends it in the text: a line of 4,096 bytes ends by itself, a shorter one by a newline
@@ -46,11 +46,16 @@ whole_lines text = lines_behind [] text
 abbrev pub unfinished : List ℕ → List ℕ
 unfinished text = part_behind [] text
 
--- text without a newline becomes a line when the rank ends, if it isn't empty
+-- a text as a line, if it isn't empty
+abbrev pub line_if_any : List ℕ → List (List ℕ)
+line_if_any [] = []
+line_if_any (b ∷ bs) = (b ∷ bs) ∷ []
+
+-- text without a newline becomes a line when the rank ends or is trapped, if it isn't empty
 abbrev pub last_line : Ending → List ℕ → List (List ℕ)
 last_line Paused part = []
-last_line (Ended status) [] = []
-last_line (Ended status) (b ∷ bs) = (b ∷ bs) ∷ []
+last_line (Ended status) part = line_if_any part
+last_line (Trapped why) part = line_if_any part
 
 -- the lines that a run on one rank printed
 abbrev pub lines_of : Outcome → List (List ℕ)
