@@ -6,11 +6,18 @@ ghost use Rattle.vm_code.specs.Means.{Goes};
 ghost use Rattle.vm_code.specs.Machine.{start};
 ghost use Rattle.rank_machine.specs.Runs.{config_of, Ran};
 
+mod locals;
 mod machine;
+mod operands;
+mod operators;
+mod step;
 
+use crate::step::step;
 use am_base::Bytes;
 use c_model::Ending;
+pub use locals::Locals;
 pub use machine::Machine;
+pub use operands::Operands;
 use std::alloc::{AllocError, Global};
 use vm_code::Code;
 
@@ -21,8 +28,8 @@ impl Machine {
     {
         Machine {
             place: 0,
-            operands: Vec::new(alloc),
-            memory: Vec::new(alloc),
+            operands: Operands::new(alloc),
+            memory: Locals::new(alloc),
             text: Bytes::new(alloc),
             ticks: 0,
         }
@@ -36,5 +43,15 @@ pub fn go(machine: &mut Machine, code: &Code, budget: u64) -> Result<Ending, All
     requires fits { machine.old.ticks + budget < 2 ^ 64 }
     ensures { IfOk result (Ran code.now machine.old budget machine.new) }
 {
-    Err(AllocError)
+    let mut left = budget;
+    'instructions: loop {
+        // No code that means a program ends without a `Return`.
+        if machine.place >= code.instrs.len() {
+            return Ok(Ending::Paused);
+        }
+        let instr = code.instrs.as_slice()[machine.place];
+        if let Some(ending) = step(machine, &mut left, code, instr)? {
+            return Ok(ending);
+        }
+    }
 }

@@ -1,13 +1,14 @@
+use crate::locals::Locals;
+use crate::operands::Operands;
 use am_base::Bytes;
-use std::alloc::Global;
 
-/// The stack machine of one rank: the place of its next instruction, its operands with the topmost one last, the locals
-/// of `main` by their numbers, what it printed, and its ticks.
+/// The stack machine of one rank: the place of its next instruction, its operands, its memory, what it printed, and its
+/// ticks.
 #[derive(Debug, Drop)]
 pub struct Machine {
     pub place: usize,
-    pub operands: Vec<i32>,
-    pub memory: Vec<i32>,
+    pub operands: Operands,
+    pub memory: Locals,
     pub text: Bytes,
     pub ticks: u64,
 }

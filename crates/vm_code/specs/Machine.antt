@@ -61,7 +61,7 @@ store_at m (negsuc a) x = m
 
 abbrev pub with_result : Result → ℕ → List ℤ → Config → Moved
 with_result (Gives x) line stack c = go_on (x ∷ stack) c
-with_result (Traps cause) line stack c = trapped cause line c
+with_result (Traps cause) line stack c = trapped cause line (at_place c.place stack c)
 
 abbrev pub print : Option (List ℕ) → ℕ → Config → Moved
 print None line c = Stuck
