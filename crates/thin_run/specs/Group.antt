@@ -6,6 +6,7 @@ use Rattle.w_model.specs.declared.entries.Entry.{Entry}
 use Rattle.w_model.specs.World.{Setting, RankPart, world_of}
 use Rattle.w_model.specs.Drain.{IsRunOf, IsRound, IsDrain, ticks_in_round}
 use Rattle.w_model.specs.Cut.{rank_numbers}
+use Rattle.vm_code.specs.declared.code.Code.{Code}
 use Rattle.thin_run.specs.declared.rank.Rank.{Rank}
 use Rattle.thin_run.specs.Rank.{StandsFor}
 
@@ -14,31 +15,31 @@ abbrev pub setting : Program → ℕ → ℕ → Setting
 setting program ranks bound = record { program = program; ranks = ranks; bound = bound }
 
 -- the rank stands for this part of the world
-pub record IsPart (program : Program) (part : RankPart) (rank : Rank) : Type 0 where
-  pub stands : StandsFor program rank
-  pub ticks : rank.ticks ≡ part.ticks
+pub record IsPart (code : Code) (program : Program) (part : RankPart) (rank : Rank) : Type 0 where
+  pub stands : StandsFor code program rank
+  pub ticks : rank.machine.ticks ≡ part.ticks
 
 -- how many ticks a rank may still take
 abbrev pub ticks_left : ℕ → Rank → ℕ
-ticks_left bound rank = bound - rank.ticks
+ticks_left bound rank = bound - rank.machine.ticks
 
 -- The ranks stand for the world after the history. Each tick of the history is one that a rank can't take any more.
-pub record Stand (s : Setting) (ranks : List Rank) (h : List Entry) : Type 0 where
+pub record Stand (code : Code) (s : Setting) (ranks : List Rank) (h : List Entry) : Type 0 where
   pub count : length ranks ≡ s.ranks
-  pub each : (i : ℕ) (d : Rank) → i < s.ranks → IsPart s.program ((world_of h).rank i) (get_or ranks i d)
+  pub each : (i : ℕ) (d : Rank) → i < s.ranks → IsPart code s.program ((world_of h).rank i) (get_or ranks i d)
   pub used : length h + sum_by (ticks_left s.bound) ranks ≡ s.ranks * s.bound
 
 -- A run of one rank was added to the history.
-pub record AddsRun (s : Setting) (at : ℕ) (old : List Entry) (ranks : List Rank) (new : List Entry) (taken : ℕ) : Type 0 where
-  pub stand : Stand s ranks new
+pub record AddsRun (code : Code) (s : Setting) (at : ℕ) (old : List Entry) (ranks : List Rank) (new : List Entry) (taken : ℕ) : Type 0 where
+  pub stand : Stand code s ranks new
   pub added : List Entry
   pub new_is : new ≡ old ++ added
   pub run : IsRunOf s (world_of old) at ticks_in_round added
   pub taken_is : length added ≡ taken
 
 -- A round was added to the history, and it is told whether it has an entry.
-pub record AddsRound (s : Setting) (old : List Entry) (ranks : List Rank) (new : List Entry) (some : Bool) : Type 0 where
-  pub stand : Stand s ranks new
+pub record AddsRound (code : Code) (s : Setting) (old : List Entry) (ranks : List Rank) (new : List Entry) (some : Bool) : Type 0 where
+  pub stand : Stand code s ranks new
   pub added : List Entry
   pub new_is : new ≡ old ++ added
   pub round : IsRound s (world_of old) (rank_numbers s) added
@@ -46,8 +47,8 @@ pub record AddsRound (s : Setting) (old : List Entry) (ranks : List Rank) (new :
   pub one : some ≡ true → added ≢ []
 
 -- A whole drain was added to the history.
-pub record AddsDrain (s : Setting) (old : List Entry) (ranks : List Rank) (new : List Entry) : Type 0 where
-  pub stand : Stand s ranks new
+pub record AddsDrain (code : Code) (s : Setting) (old : List Entry) (ranks : List Rank) (new : List Entry) : Type 0 where
+  pub stand : Stand code s ranks new
   pub added : List Entry
   pub new_is : new ≡ old ++ added
   pub drain : IsDrain s (world_of old) added

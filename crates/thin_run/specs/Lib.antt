@@ -1,5 +1,3 @@
-pub mod Place
 pub mod Rank
-pub mod Steps
 pub mod Group
 pub mod Told

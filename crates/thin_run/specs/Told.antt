@@ -4,13 +4,12 @@ use Rattle.std.specs.List.{flat_map}
 use Rattle.c_model.specs.declared.tree.Program.{Program}
 use Rattle.w_model.specs.declared.entries.Entry.{Entry}
 use Rattle.w_model.specs.declared.entries.Entry.TheVariants.{Commit}
-use Rattle.w_model.specs.declared.report.End.TheVariants.{Done}
-use Rattle.w_model.specs.World.{Setting, world_of, start_world, IsStuck}
+use Rattle.w_model.specs.World.{Setting, world_of, start_world}
 use Rattle.w_model.specs.Cut.{released_lines, released_at, rank_numbers}
-use Rattle.w_model.specs.Texts.{run_lines, runs_of, report_text, rank_line_at, end_line, end_at, is_at_bound, is_unended}
+use Rattle.w_model.specs.Texts.{run_lines, runs_of, report_text, rank_line_at, end_line, end_at, is_at_bound, is_unended, is_trapped}
 use Rattle.w_model.specs.Drain.{IsDrain}
+use Rattle.vm_code.specs.declared.code.Code.{Code}
 use Rattle.thin_run.specs.declared.rank.Rank.{Rank}
-use Rattle.thin_run.specs.Place.{ending_of}
 use Rattle.thin_run.specs.Rank.{StandsFor}
 use Rattle.thin_run.specs.declared.told.Told.{Told}
 
@@ -20,34 +19,32 @@ on_first r = 0
 
 -- The texts are those of ranks that stand for the world after h, behind which the whole history has entries that
 -- change nothing.
-pub record Tells (s : Setting) (h whole : List Entry) (told : Told) : Type 0 where
+pub record Tells (file : List ℕ) (s : Setting) (h whole : List Entry) (told : Told) : Type 0 where
   pub journal : told.journal ≡ run_lines (runs_of whole)
   pub lines : told.lines ≡ released_at s start_world (world_of h)
-  pub report : told.report ≡ flat_map (rank_line_at s (world_of h) on_first) (rank_numbers s) ++ end_line (end_at s (world_of h))
+  pub report : told.report ≡ flat_map (rank_line_at file s (world_of h) on_first) (rank_numbers s) ++ end_line (end_at s (world_of h))
   pub end : told.end ≡ end_at s (world_of h)
 
 -- The texts are those of a drain from the start and its mark, and the end is that run's.
-pub record TellsOfRun (s : Setting) (told : Told) : Type 0 where
+pub record TellsOfRun (file : List ℕ) (s : Setting) (told : Told) : Type 0 where
   pub body : List Entry
   pub drained : IsDrain s start_world body
   pub journal : told.journal ≡ run_lines (runs_of (body ++ Commit ∷ []))
   pub lines : told.lines ≡ released_lines s (body ++ Commit ∷ [])
-  pub report : told.report ≡ report_text s on_first (body ++ Commit ∷ [])
+  pub report : told.report ≡ report_text file s on_first (body ++ Commit ∷ [])
   pub end : told.end ≡ end_at s (world_of (body ++ Commit ∷ []))
 
 -- a rank that took no tick yet
-pub record IsNew (program : Program) (rank : Rank) : Type 0 where
-  pub stands : StandsFor program rank
-  pub no_tick : rank.ticks ≡ 0
+pub record IsNew (code : Code) (program : Program) (rank : Rank) : Type 0 where
+  pub stands : StandsFor code program rank
+  pub no_tick : rank.machine.ticks ≡ 0
 
 -- the rank can take no more ticks and hasn't ended; it hasn't ended
 abbrev pub is_rank_at_bound : ℕ → Rank → Bool
-is_rank_at_bound bound rank = is_at_bound (ending_of rank.place) rank.ticks bound
+is_rank_at_bound bound rank = is_at_bound rank.ending rank.machine.ticks bound
 
 abbrev pub is_rank_unended : Rank → Bool
-is_rank_unended rank = is_unended (ending_of rank.place)
+is_rank_unended rank = is_unended rank.ending
 
--- A bound that is high enough for every statement: where such a run is stuck, it is done.
-abbrev pub LongRunsAreDone : Type 0
-LongRunsAreDone =
-    (s : Setting) (h : List Entry) → 2 * length s.program.body + 2 ≤ s.bound → IsStuck s h → end_at s (world_of h) ≡ Done
+abbrev pub is_rank_trapped : Rank → Bool
+is_rank_trapped rank = is_trapped rank.ending

@@ -1,9 +1,9 @@
 ghost use Rattle.std.specs.Prelude.{◌≡◌, ◌+◌, ◌≤◌, ◌<◌, ◌^◌, length, IfOk, OnOk};
 ghost use Rattle.thin_run.specs.Group.{setting, Stand, AddsRun, AddsRound, AddsDrain};
 
+use crate::Compiled;
 use crate::rank::Rank;
 use am_base::RankId;
-use c_model::Program;
 use std::alloc::AllocError;
 use w_model::{Entry, EntryRun, History};
 
@@ -15,17 +15,17 @@ fn run_rank(
     ranks: &mut [Rank],
     history: &mut History,
     at: usize,
-    program: &Program,
+    compiled: &Compiled,
     bound: u64,
 ) -> Result<u64, AllocError>
     requires within { at < length ranks.old }
     requires few { length ranks.old ≤ 256 }
     requires bounded { bound ≤ 16000000 }
-    requires stand { Stand (setting program.now (length ranks.old) bound) ranks.old history.old }
-    ensures { IfOk result (AddsRun (setting program.now (length ranks.old) bound) at history.old ranks.new history.new) }
+    requires stand { Stand compiled.now.code (setting compiled.now.program (length ranks.old) bound) ranks.old history.old }
+    ensures { IfOk result (AddsRun compiled.now.code (setting compiled.now.program (length ranks.old) bound) at history.old ranks.new history.new) }
 {
     let rank = &mut ranks[at];
-    let taken = rank.run(program, TICKS_IN_ROUND, bound)?;
+    let taken = rank.run(compiled, TICKS_IN_ROUND, bound)?;
     history.push(EntryRun {
         entry: Entry::Tick(RankId(at as u16)),
         times: taken,
@@ -37,17 +37,17 @@ fn run_rank(
 fn run_round(
     ranks: &mut [Rank],
     history: &mut History,
-    program: &Program,
+    compiled: &Compiled,
     bound: u64,
 ) -> Result<bool, AllocError>
     requires few { length ranks.old ≤ 256 }
     requires bounded { bound ≤ 16000000 }
-    requires stand { Stand (setting program.now (length ranks.old) bound) ranks.old history.old }
-    ensures { IfOk result (AddsRound (setting program.now (length ranks.old) bound) history.old ranks.new history.new) }
+    requires stand { Stand compiled.now.code (setting compiled.now.program (length ranks.old) bound) ranks.old history.old }
+    ensures { IfOk result (AddsRound compiled.now.code (setting compiled.now.program (length ranks.old) bound) history.old ranks.new history.new) }
 {
     let mut some = false;
     for at in 0..ranks.len() {
-        if run_rank(ranks, history, at, program, bound)? > 0 {
+        if run_rank(ranks, history, at, compiled, bound)? > 0 {
             some = true;
         }
     }
@@ -58,16 +58,16 @@ fn run_round(
 pub fn drain(
     ranks: &mut [Rank],
     history: &mut History,
-    program: &Program,
+    compiled: &Compiled,
     bound: u64,
 ) -> Result<(), AllocError>
     requires few { length ranks.old ≤ 256 }
     requires bounded { bound ≤ 16000000 }
-    requires stand { Stand (setting program.now (length ranks.old) bound) ranks.old history.old }
-    ensures { OnOk result (AddsDrain (setting program.now (length ranks.old) bound) history.old ranks.new history.new) }
+    requires stand { Stand compiled.now.code (setting compiled.now.program (length ranks.old) bound) ranks.old history.old }
+    ensures { OnOk result (AddsDrain compiled.now.code (setting compiled.now.program (length ranks.old) bound) history.old ranks.new history.new) }
 {
     'rounds: loop {
-        if !run_round(ranks, history, program, bound)? {
+        if !run_round(ranks, history, compiled, bound)? {
             return Ok(());
         }
     }

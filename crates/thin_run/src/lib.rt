@@ -1,12 +1,11 @@
-//! Runs a program of the first form on its ranks, to the end.
+//! Runs the code of a program on its ranks, to the end.
 #![tactic(auto)]
 
+mod compiled;
 mod group;
-mod place;
 mod rank;
 mod told;
 
-pub use told::{Told, long_runs_are_done, run};
+pub use compiled::Compiled;
+pub use told::{Told, run};
 
-#[cfg(test)]
-mod tests;

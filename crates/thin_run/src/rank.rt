@@ -1,68 +1,72 @@
-ghost use Rattle.std.specs.Prelude.{◌≡◌, ◌+◌, ◌≤◌, ◌<◌, ◌^◌, IfOk, OnOk, OnErr};
+ghost use Rattle.std.specs.Prelude.{◌≡◌, ◌+◌, ◌≤◌, ◌<◌, ◌^◌, IfOk};
 
-use crate::place::Place;
-use am_base::Bytes;
-use c_model::{Ending, Program};
+use crate::Compiled;
+use c_model::Ending;
+use rank_machine::{Machine, go};
 use std::alloc::{AllocError, Global};
 
-/// One rank's run so far.
+/// One rank's run so far: its machine, and how it stands.
 #[derive(Debug, Drop)]
 pub struct Rank {
-    pub place: Place,
-    pub ticks: u64,
-    pub text: Bytes,
+    pub machine: Machine,
+    pub ending: Ending,
 }
 
 impl Rank {
+    ghost use Rattle.c_model.specs.declared.tree.Ending.TheVariants.{Paused};
+    ghost use Rattle.vm_code.specs.Means.{Means};
     ghost use Rattle.thin_run.specs.Rank.{StandsFor, Ran};
-    ghost use Rattle.thin_run.specs.Steps.{IsUnended};
-    ghost use Rattle.thin_run.specs.Place.{ending_of};
-    ghost use Rattle.w_model.specs.Texts.{is_at_bound};
+    ghost use Rattle.w_model.specs.Texts.{is_at_bound, is_unended, is_trapped};
 
     /// A rank before its first tick.
-    pub fn new(alloc: Global, program: &Program) -> Rank
-        ensures start { StandsFor program.now result }
-        ensures ticks { result.ticks ≡ 0 }
+    pub fn new(alloc: Global, compiled: &Compiled) -> Rank
+        requires { Means compiled.now.code compiled.now.program }
+        ensures start { StandsFor compiled.now.code compiled.now.program result }
+        ensures ticks { result.machine.ticks ≡ 0 }
     {
         Rank {
-            place: Place::Start,
-            ticks: 0,
-            text: Bytes::new(alloc),
+            machine: Machine::new(alloc),
+            ending: Ending::Paused,
         }
-    }
-
-    /// Takes one tick.
-    fn tick(&mut self, program: &Program) -> Result<(), AllocError>
-        requires stands { StandsFor program.now self.old }
-        requires unended { IsUnended self.old.place }
-        requires fits { self.old.ticks + 1 < 2 ^ 64 }
-        ensures stands { OnOk result (StandsFor program.now self.new) }
-        ensures ticks { OnOk result (self.new.ticks ≡ self.old.ticks + 1) }
-    {
-        self.text.append(self.place.printed(program))?;
-        self.place = self.place.after_tick(program);
-        self.ticks += 1;
-        Ok(())
     }
 
     /// Takes ticks while the budget and the bound leave some and the rank hasn't ended, and gives their number. After
     /// an error the rank is only to be dropped.
-    pub fn run(&mut self, program: &Program, budget: u64, bound: u64) -> Result<u64, AllocError>
-        requires { StandsFor program.now self.old }
-        ensures { IfOk result (λ taken. Ran program.now budget bound self.old self.new taken) }
+    pub fn run(&mut self, compiled: &Compiled, budget: u64, bound: u64) -> Result<u64, AllocError>
+        requires stands { StandsFor compiled.now.code compiled.now.program self.old }
+        ensures { IfOk result (λ taken. Ran compiled.now.code compiled.now.program budget bound self.old self.new taken) }
     {
-        let mut taken = 0;
-        while taken < budget && self.ticks < bound && self.place.is_unended() {
-            self.tick(program)?;
-            taken += 1;
+        let before = self.machine.ticks;
+        if !self.is_unended() || bound <= before {
+            return Ok(0);
         }
-        Ok(taken)
+        let most = budget.min(bound - before);
+        self.ending = go(&mut self.machine, &compiled.code, most)?;
+        Ok(self.machine.ticks - before)
     }
 
     /// Whether the rank has as many ticks as it may take, and hasn't ended.
     pub fn is_at_bound(&self, bound: u64) -> bool
-        ensures { result ≡ is_at_bound (ending_of self.now.place) self.now.ticks bound }
+        ensures { result ≡ is_at_bound self.now.ending self.now.machine.ticks bound }
     {
-        self.place.is_unended() && self.ticks == bound
+        self.is_unended() && self.machine.ticks == bound
+    }
+
+    pub fn is_unended(&self) -> bool
+        ensures { result ≡ is_unended self.now.ending }
+    {
+        match self.ending {
+            Ending::Paused => true,
+            Ending::Ended(_) | Ending::Trapped(_) => false,
+        }
+    }
+
+    pub fn is_trapped(&self) -> bool
+        ensures { result ≡ is_trapped self.now.ending }
+    {
+        match self.ending {
+            Ending::Trapped(_) => true,
+            Ending::Paused | Ending::Ended(_) => false,
+        }
     }
 }

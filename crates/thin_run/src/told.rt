@@ -1,16 +1,18 @@
 ghost use Rattle.std.specs.Prelude.{◌≡◌, ◌≤◌, ◌++◌, [], ◌∷◌, List, ℕ, length, IfOk, OnOk};
-ghost use Rattle.std.specs.List.{flat_map, list_any};
+ghost use Rattle.std.specs.List.{flat_map, list_any, position};
 ghost use Rattle.w_model.specs.Cut.{released_at, rank_numbers};
-ghost use Rattle.w_model.specs.Texts.{rank_line_at, end_at, end_line};
+ghost use Rattle.w_model.specs.Texts.{rank_line_at, end_at, end_untrapped, end_line};
 ghost use Rattle.w_model.specs.World.{Setting, World, world_of, start_world};
 ghost use Rattle.w_model.specs.declared.entries.Entry.{Entry as Event};
-ghost use Rattle.thin_run.specs.Told.{on_first, is_rank_at_bound, is_rank_unended, Tells, TellsOfRun, LongRunsAreDone};
+ghost use Rattle.thin_run.specs.Told.{on_first, is_rank_at_bound, is_rank_unended, is_rank_trapped, Tells, TellsOfRun};
 ghost use Rattle.thin_run.specs.Group.{setting, Stand};
+ghost use Rattle.vm_code.specs.Means.{Means};
+ghost use Rattle.vm_code.specs.declared.code.Code.{Code};
 
+use crate::Compiled;
 use crate::group::drain;
 use crate::rank::Rank;
 use am_base::{Bytes, ProcId, RankId};
-use c_model::Program;
 use std::alloc::{AllocError, Global};
 use w_model::{
     End, Entry, EntryRun, History, Standing, append_end, append_lines, append_rank, append_runs,
@@ -29,41 +31,55 @@ pub struct Told {
 }
 
 /// Runs the program on so many ranks until no rank can take a tick, and then marks the end.
-pub fn run(alloc: Global, program: &Program, ranks: u16, bound: u64) -> Result<Told, AllocError>
+pub fn run(
+    alloc: Global,
+    compiled: &Compiled,
+    file: &[u8],
+    ranks: u16,
+    bound: u64,
+) -> Result<Told, AllocError>
+    requires means { Means compiled.now.code compiled.now.program }
     requires few { ranks ≤ 256 }
     requires bounded { bound ≤ 16000000 }
-    ensures { IfOk result (TellsOfRun (setting program.now ranks bound)) }
+    ensures { IfOk result (TellsOfRun file.now (setting compiled.now.program ranks bound)) }
 {
-    let mut group = start(alloc, program, ranks)?;
-    run_group(alloc, group.as_mut_slice(), program, bound)
+    let mut group = start(alloc, compiled, ranks)?;
+    run_group(alloc, group.as_mut_slice(), compiled, file, bound)
 }
 
 /// Runs ranks that took no tick yet, and marks the end.
 fn run_group(
     alloc: Global,
     group: &mut [Rank],
-    program: &Program,
+    compiled: &Compiled,
+    file: &[u8],
     bound: u64,
 ) -> Result<Told, AllocError>
     requires few { length group.old ≤ 256 }
     requires bounded { bound ≤ 16000000 }
-    requires stand { Stand (setting program.now (length group.old) bound) group.old [] }
-    ensures { IfOk result (TellsOfRun (setting program.now (length group.old) bound)) }
+    requires stand { Stand compiled.now.code (setting compiled.now.program (length group.old) bound) group.old [] }
+    ensures { IfOk result (TellsOfRun file.now (setting compiled.now.program (length group.old) bound)) }
 {
     let mut history = History::new(alloc);
-    drain(group, &mut history, program, bound)?;
+    drain(group, &mut history, compiled, bound)?;
     history.push(EntryRun {
         entry: Entry::Commit,
         times: 1,
     })?;
-    tell(alloc, group, &history, bound)
+    tell(alloc, group, &history, file, bound)
 }
 
 /// The texts of a run that ended.
-fn tell(alloc: Global, ranks: &[Rank], history: &History, bound: u64) -> Result<Told, AllocError>
+fn tell(
+    alloc: Global,
+    ranks: &[Rank],
+    history: &History,
+    file: &[u8],
+    bound: u64,
+) -> Result<Told, AllocError>
     requires { length ranks.now ≤ 256 }
-    ensures { IfOk result (λ told. (s : Setting) (h : List Event) → s.bound ≡ bound → Stand s ranks.now h
-        → Tells s h history.now told) }
+    ensures { IfOk result (λ told. (code : Code) (s : Setting) (h : List Event) → s.bound ≡ bound → Stand code s ranks.now h
+        → Tells file.now s h history.now told) }
 {
     let mut journal = Bytes::new(alloc);
     append_runs(&mut journal, history.runs())?;
@@ -71,7 +87,7 @@ fn tell(alloc: Global, ranks: &[Rank], history: &History, bound: u64) -> Result<
     append_all_lines(&mut lines, ranks)?;
     let end = end_of(ranks, bound);
     let mut report = Bytes::new(alloc);
-    append_report(&mut report, ranks, bound, end)?;
+    append_report(&mut report, ranks, file, bound, end)?;
     Ok(Told {
         journal,
         lines,
@@ -80,18 +96,14 @@ fn tell(alloc: Global, ranks: &[Rank], history: &History, bound: u64) -> Result<
     })
 }
 
-/// A law: where a run with a bound that leaves ticks for every statement is stuck, it is done.
-pub fn long_runs_are_done()
-    ensures { LongRunsAreDone }
-{}
-
 /// The ranks before their first tick.
-fn start(alloc: Global, program: &Program, count: u16) -> Result<Vec<Rank>, AllocError>
-    ensures { IfOk result (λ ranks. (bound : ℕ) → Stand (setting program.now count bound) ranks.items []) }
+fn start(alloc: Global, compiled: &Compiled, count: u16) -> Result<Vec<Rank>, AllocError>
+    requires { Means compiled.now.code compiled.now.program }
+    ensures { IfOk result (λ ranks. (bound : ℕ) → Stand compiled.now.code (setting compiled.now.program count bound) ranks.items []) }
 {
     let mut ranks = Vec::with_capacity(alloc, usize::from(count))?;
     for _ in 0..count {
-        ranks.push(Rank::new(alloc, program))?;
+        ranks.push(Rank::new(alloc, compiled))?;
     }
     Ok(ranks)
 }
@@ -99,7 +111,7 @@ fn start(alloc: Global, program: &Program, count: u16) -> Result<Vec<Rank>, Allo
 /// Appends all lines that the ranks printed, rank by rank.
 fn append_all_lines(out: &mut Bytes, ranks: &[Rank]) -> Result<(), AllocError>
     requires { length ranks.now ≤ 256 }
-    ensures { OnOk result ((s : Setting) (h : List Event) → Stand s ranks.now h
+    ensures { OnOk result ((code : Code) (s : Setting) (h : List Event) → Stand code s ranks.now h
         → out.new ≡ out.old ++ released_at s start_world (world_of h)) }
 {
     for at in 0..ranks.len() {
@@ -107,44 +119,67 @@ fn append_all_lines(out: &mut Bytes, ranks: &[Rank]) -> Result<(), AllocError>
         append_lines(
             out,
             RankId(at as u16),
-            rank.text.as_slice(),
-            rank.place.ending(),
+            rank.machine.text.as_slice(),
+            rank.ending,
         )?;
     }
     Ok(())
 }
 
 /// Appends the report's lines of the ranks, and how the run ended.
-fn append_report(out: &mut Bytes, ranks: &[Rank], bound: u64, end: End) -> Result<(), AllocError>
+fn append_report(
+    out: &mut Bytes,
+    ranks: &[Rank],
+    file: &[u8],
+    bound: u64,
+    end: End,
+) -> Result<(), AllocError>
     requires { length ranks.now ≤ 256 }
-    ensures { OnOk result ((s : Setting) (h : List Event) → s.bound ≡ bound → Stand s ranks.now h
-        → out.new ≡ out.old ++ flat_map (rank_line_at s (world_of h) on_first) (rank_numbers s) ++ end_line end) }
+    ensures { OnOk result ((code : Code) (s : Setting) (h : List Event) → s.bound ≡ bound → Stand code s ranks.now h
+        → out.new ≡ out.old ++ flat_map (rank_line_at file.now s (world_of h) on_first) (rank_numbers s) ++ end_line end) }
 {
-    append_rank_lines(out, ranks, bound)?;
-    append_end(out, end)
+    append_rank_lines(out, ranks, file, bound)?;
+    append_end(out, end)?;
+    Ok(())
 }
 
 /// Appends the report's lines of the ranks, in order.
-fn append_rank_lines(out: &mut Bytes, ranks: &[Rank], bound: u64) -> Result<(), AllocError>
+fn append_rank_lines(
+    out: &mut Bytes,
+    ranks: &[Rank],
+    file: &[u8],
+    bound: u64,
+) -> Result<(), AllocError>
     requires { length ranks.now ≤ 256 }
-    ensures { OnOk result ((s : Setting) (h : List Event) → s.bound ≡ bound → Stand s ranks.now h
-        → out.new ≡ out.old ++ flat_map (rank_line_at s (world_of h) on_first) (rank_numbers s)) }
+    ensures { OnOk result ((code : Code) (s : Setting) (h : List Event) → s.bound ≡ bound → Stand code s ranks.now h
+        → out.new ≡ out.old ++ flat_map (rank_line_at file.now s (world_of h) on_first) (rank_numbers s)) }
 {
     for at in 0..ranks.len() {
         let rank = &ranks[at];
         let standing = Standing {
-            ending: rank.place.ending(),
-            ticks: rank.ticks,
+            ending: rank.ending,
+            ticks: rank.machine.ticks,
             place: ProcId(0),
         };
-        append_rank(out, RankId(at as u16), standing, bound)?;
+        append_rank(out, file, RankId(at as u16), standing, bound)?;
     }
     Ok(())
 }
 
 /// How the run ended.
 fn end_of(ranks: &[Rank], bound: u64) -> End
-    ensures { (s : Setting) (h : List Event) → s.bound ≡ bound → Stand s ranks.now h → result ≡ end_at s (world_of h) }
+    requires { length ranks.now ≤ 256 }
+    ensures { (code : Code) (s : Setting) (h : List Event) → s.bound ≡ bound → Stand code s ranks.now h → result ≡ end_at s (world_of h) }
+{
+    match first_trapped(ranks) {
+        Some(at) => End::Trapped(RankId(at as u16)),
+        None => end_untrapped(ranks, bound),
+    }
+}
+
+/// How the run ended where no rank was trapped.
+fn end_untrapped(ranks: &[Rank], bound: u64) -> End
+    ensures { (code : Code) (s : Setting) (h : List Event) → s.bound ≡ bound → Stand code s ranks.now h → result ≡ end_untrapped s (world_of h) }
 {
     if is_any_at_bound(ranks, bound) {
         End::OutOfTicks
@@ -153,6 +188,13 @@ fn end_of(ranks: &[Rank], bound: u64) -> End
     } else {
         End::Done
     }
+}
+
+/// The least rank that was trapped.
+fn first_trapped(ranks: &[Rank]) -> Option<usize>
+    ensures { result ≡ position is_rank_trapped ranks.now }
+{
+    ranks.iter().position(|rank| rank.is_trapped())
 }
 
 fn is_any_at_bound(ranks: &[Rank], bound: u64) -> bool
@@ -164,5 +206,5 @@ fn is_any_at_bound(ranks: &[Rank], bound: u64) -> bool
 fn is_any_unended(ranks: &[Rank]) -> bool
     ensures { result ≡ list_any is_rank_unended ranks.now }
 {
-    ranks.iter().any(|rank| rank.place.is_unended())
+    ranks.iter().any(|rank| rank.is_unended())
 }

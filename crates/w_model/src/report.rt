@@ -1,8 +1,8 @@
 ghost use Rattle.std.specs.Prelude.{◌≡◌, ◌++◌, OnOk};
-ghost use Rattle.w_model.specs.Texts.{rank_line, state_text, end_line};
+ghost use Rattle.w_model.specs.Texts.{rank_line, state_text, cause_text, end_line};
 
 use am_base::{Bytes, ProcId, RankId, decimal, signed_decimal};
-use c_model::Ending;
+use c_model::{Ending, TrapCause};
 use std::alloc::AllocError;
 
 /// How a run that is stuck ended.
@@ -10,10 +10,12 @@ use std::alloc::AllocError;
 pub enum End {
     /// Every rank ended.
     Done,
-    /// A rank hasn't ended, and none that hasn't is at the bound on ticks.
+    /// No rank was trapped, a rank hasn't ended, and none that hasn't is at the bound on ticks.
     Deadlock,
-    /// A rank that hasn't ended is at the bound on ticks.
+    /// No rank was trapped, and a rank that hasn't ended is at the bound on ticks.
     OutOfTicks,
+    /// A rank was trapped, and this is the least.
+    Trapped(RankId),
 }
 
 /// How far a rank came: whether it ended, its ticks, and the processor on which it stands.
@@ -24,18 +26,19 @@ pub struct Standing {
     pub place: ProcId,
 }
 
-/// Appends the report's line of a rank. After an error `out` is only to be dropped.
+/// Appends the report's line of a rank that runs the program in a file. After an error `out` is only to be dropped.
 pub fn append_rank(
     out: &mut Bytes,
+    file: &[u8],
     rank: RankId,
     standing: Standing,
     bound: u64,
 ) -> Result<(), AllocError>
-    ensures { OnOk result (out.new ≡ out.old ++ rank_line rank.0 standing.ending standing.ticks bound standing.place.0) }
+    ensures { OnOk result (out.new ≡ out.old ++ rank_line file.now rank.0 standing.ending standing.ticks bound standing.place.0) }
 {
     out.append(b"rank ")?;
     decimal(out, u64::from(rank.0))?;
-    append_state(out, standing.ending, standing.ticks, bound)?;
+    append_state(out, file, standing, bound)?;
     out.append(b" ticks ")?;
     decimal(out, standing.ticks)?;
     out.append(b" on ")?;
@@ -43,16 +46,40 @@ pub fn append_rank(
     out.append(b"\n")
 }
 
-fn append_state(out: &mut Bytes, ending: Ending, ticks: u64, bound: u64) -> Result<(), AllocError>
-    ensures { OnOk result (out.new ≡ out.old ++ state_text ending ticks bound) }
+fn append_state(
+    out: &mut Bytes,
+    file: &[u8],
+    standing: Standing,
+    bound: u64,
+) -> Result<(), AllocError>
+    ensures { OnOk result (out.new ≡ out.old ++ state_text file.now standing.ending standing.ticks bound) }
 {
-    match ending {
+    match standing.ending {
         Ending::Ended(status) => {
             out.append(b" ended ")?;
             signed_decimal(out, status)
         }
-        Ending::Paused if ticks == bound => out.append(b" at bound"),
+        Ending::Trapped(why) => {
+            out.append(b" trapped ")?;
+            out.append(cause_text(why.cause))?;
+            out.append(b" at ")?;
+            out.append(file)?;
+            out.append(b":")?;
+            decimal(out, u64::from(why.line))
+        }
+        Ending::Paused if standing.ticks == bound => out.append(b" at bound"),
         Ending::Paused => out.append(b" waiting"),
+    }
+}
+
+fn cause_text(cause: TrapCause) -> &'static [u8]
+    ensures { result.now ≡ cause_text cause }
+{
+    match cause {
+        TrapCause::DivisionByZero => b"division by zero",
+        TrapCause::DivisionOverflow => b"division overflow",
+        TrapCause::ShiftCount => b"shift count",
+        TrapCause::TextLimit => b"text limit",
     }
 }
 
@@ -60,9 +87,14 @@ fn append_state(out: &mut Bytes, ending: Ending, ticks: u64, bound: u64) -> Resu
 pub fn append_end(out: &mut Bytes, end: End) -> Result<(), AllocError>
     ensures { OnOk result (out.new ≡ out.old ++ end_line end) }
 {
-    out.append(match end {
-        End::Done => b"ampi: done\n",
-        End::Deadlock => b"ampi: deadlock\n",
-        End::OutOfTicks => b"ampi: out of ticks\n",
-    })
+    match end {
+        End::Done => out.append(b"ampi: done\n"),
+        End::Deadlock => out.append(b"ampi: deadlock\n"),
+        End::OutOfTicks => out.append(b"ampi: out of ticks\n"),
+        End::Trapped(rank) => {
+            out.append(b"ampi: trapped rank ")?;
+            decimal(out, u64::from(rank.0))?;
+            out.append(b"\n")
+        }
+    }
 }

@@ -7,7 +7,7 @@ use crate::{
     append_runs,
 };
 use am_base::{Bytes, ProcId, RankId};
-use c_model::Ending;
+use c_model::{Ending, Trap, TrapCause};
 use std::alloc::{AllocError, Global};
 use std::test::Fail;
 
@@ -16,6 +16,11 @@ const MATCH: Entry = Entry::Match {
     request: 2,
     sender: RankId(0),
 };
+
+const TRAPPED: Ending = Ending::Trapped(Trap {
+    cause: TrapCause::DivisionByZero,
+    line: 12,
+});
 
 fn ticks(rank: u16, times: u64) -> EntryRun
     ensures { result ≡ run_of_entry (tick_of rank) times }
@@ -104,6 +109,8 @@ fn released_lines(rt: HostRuntime) -> Result<(), Fail> {
         (b"one", ended, b"[12] one\n"),
         (b"one\n", Ending::Paused, b"[12] one\n"),
         (b"one\n", ended, b"[12] one\n"),
+        (b"one", TRAPPED, b"[12] one\n"),
+        (b"one\n", TRAPPED, b"[12] one\n"),
         (b"\n\n", ended, b"[12] \n[12] \n"),
         (
             b"one\n\ntwo\nthree",
@@ -158,25 +165,56 @@ fn reports(rt: HostRuntime) -> Result<(), Fail> {
         (0u16, Ending::Ended(0), 4u64, 0u8),
         (1, Ending::Ended(-1), 10, 2),
         (2, Ending::Paused, 10, 255),
-        (65535, Ending::Paused, 9, 1),
+        (3, Ending::Paused, 9, 1),
+        (65535, TRAPPED, 10, 0),
     ] {
         let standing = Standing {
             ending,
             ticks,
             place: ProcId(place),
         };
-        append_rank(&mut out, RankId(rank), standing, 10)?;
+        append_rank(&mut out, b"a b.c", RankId(rank), standing, 10)?;
     }
-    for end in [End::Done, End::Deadlock, End::OutOfTicks] {
+    for end in [
+        End::Done,
+        End::Deadlock,
+        End::OutOfTicks,
+        End::Trapped(RankId(255)),
+    ] {
         append_end(&mut out, end)?;
     }
     let want = b"rank 0 ended 0 ticks 4 on 0\n\
         rank 1 ended -1 ticks 10 on 2\n\
         rank 2 at bound ticks 10 on 255\n\
-        rank 65535 waiting ticks 9 on 1\n\
+        rank 3 waiting ticks 9 on 1\n\
+        rank 65535 trapped division by zero at a b.c:12 ticks 10 on 0\n\
         ampi: done\n\
         ampi: deadlock\n\
-        ampi: out of ticks\n";
+        ampi: out of ticks\n\
+        ampi: trapped rank 255\n";
     assert_eq!(rt; out.as_slice(), want.as_slice());
+    Ok(())
+}
+
+#[test]
+fn causes_of_traps(rt: HostRuntime) -> Result<(), Fail> {
+    for (cause, want) in [
+        (TrapCause::DivisionByZero, b"division by zero".as_slice()),
+        (TrapCause::DivisionOverflow, b"division overflow"),
+        (TrapCause::ShiftCount, b"shift count"),
+        (TrapCause::TextLimit, b"text limit"),
+    ] {
+        let mut line = Bytes::from_slice(rt.alloc(), b"rank 7 trapped ")?;
+        line.append(want)?;
+        line.append(b" at c:1 ticks 3 on 0\n")?;
+        let mut out = Bytes::new(rt.alloc());
+        let standing = Standing {
+            ending: Ending::Trapped(Trap { cause, line: 1 }),
+            ticks: 3,
+            place: ProcId(0),
+        };
+        append_rank(&mut out, b"c", RankId(7), standing, 3)?;
+        assert_eq!(rt; out.as_slice(), line.as_slice());
+    }
     Ok(())
 }

@@ -4,12 +4,12 @@ use Rattle.thin_run.proofs.group.run_round.Goals as goal
 use Rattle.thin_run.proofs.group.run_round.Goals.{then-branch-gt0, else-branch-gt0}
 
 pub loop-at-init : goal.loop-at-init
-loop-at-init c = round-start _ _ _ c.requires.stand
+loop-at-init c = round-start _ _ _ _ c.requires.stand
 
 pub loop-at-preserved : goal.loop-at-preserved
 loop-at-preserved c =
     let run = rw c.loop-at.auto.ranks at c.in_ok-run_rank.ensures in
-    round-next _ _ _ c.loop-at.ranks c.loop-at.history c.loop-at.some c.run_rank.new.ranks c.run_rank.new.history
+    round-next _ _ _ _ c.loop-at.ranks c.loop-at.history c.loop-at.some c.run_rank.new.ranks c.run_rank.new.history
     c.in_ok-run_rank.field-0 c.if-branch-gt0.some (omega arith) c.loop-at.invariant run
     (elim c.if-branch-gt0.branch [
       | then-branch-gt0 w ↦ λ some. w.some-is
@@ -21,4 +21,4 @@ loop-at-preserved c =
     ])
 
 pub returns : goal.returns
-returns c = round-end _ _ c.loop-at.at _ _ _ (omega arith) c.loop-at.invariant
+returns c = round-end _ _ _ c.loop-at.at _ _ _ (omega arith) c.loop-at.invariant

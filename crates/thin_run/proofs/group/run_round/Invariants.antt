@@ -5,4 +5,4 @@ use Rattle.thin_run.proofs.group.run_round.Given as goal
 
 abbrev pub invariant-loop-at : goal.invariant-loop-at
 invariant-loop-at l =
-    RoundSoFar (setting l.program (length l.initial.ranks) l.bound) l.initial.history l.at l.ranks l.history l.some
+    RoundSoFar l.compiled.code (setting l.compiled.program (length l.initial.ranks) l.bound) l.initial.history l.at l.ranks l.history l.some

@@ -5,13 +5,13 @@ use Rattle.thin_run.proofs.ToldLemmas.{lines-start, lines-next, over-all}
 use Rattle.thin_run.proofs.told.append_all_lines.Goals as goal
 
 pub loop-at-init : goal.loop-at-init
-loop-at-init c = λ s h stand. lines-start s (world_of h) _
+loop-at-init c = λ code s h stand. lines-start s (world_of h) _
 
 pub loop-at-preserved : goal.loop-at-preserved
-loop-at-preserved c = λ s h stand.
-    lines-next s h _ c.index-ranks-at.result c.loop-at.at _ c.loop-at.out _ c.loop-at-test.true c.index-ranks-at.is stand (c.loop-at.invariant s h stand)
-    (rw (c.as_slice.ensures, c.ending.ensures) at c.in_ok-append_lines.ensures)
+loop-at-preserved c = λ code s h stand.
+    lines-next code s h _ c.index-ranks-at.result c.loop-at.at _ c.loop-at.out _ c.loop-at-test.true c.index-ranks-at.is stand (c.loop-at.invariant code s h stand)
+    (rw c.as_slice.ensures at c.in_ok-append_lines.ensures)
 
 pub returns : goal.returns
-returns c = λ s h stand.
-    over-all s (lines_since s start_world (world_of h)) c.loop-at.at _ _ (omega (arith, stand.count)) (c.loop-at.invariant s h stand)
+returns c = λ code s h stand.
+    over-all s (lines_since s start_world (world_of h)) c.loop-at.at _ _ (omega (arith, stand.count)) (c.loop-at.invariant code s h stand)

@@ -3,10 +3,11 @@ use Rattle.std.specs.List.{flat_map, range_with_len}
 use Rattle.w_model.specs.declared.entries.Entry.{Entry}
 use Rattle.w_model.specs.World.{Setting, world_of, start_world}
 use Rattle.w_model.specs.Cut.{lines_since}
+use Rattle.vm_code.specs.declared.code.Code.{Code}
 use Rattle.thin_run.specs.Group.{Stand}
 use Rattle.thin_run.proofs.told.append_all_lines.Given as goal
 
 abbrev pub invariant-loop-at : goal.invariant-loop-at
 invariant-loop-at l =
-    (s : Setting) (h : List Entry) → Stand s l.ranks h
+    (code : Code) (s : Setting) (h : List Entry) → Stand code s l.ranks h
     → l.out ≡ l.initial.out ++ flat_map (lines_since s start_world (world_of h)) (range_with_len 0 l.at)

@@ -1,20 +1,13 @@
-use Rattle.std.proofs.Common.{sym, ◌∙◌, refl}
-use Rattle.thin_run.proofs.ToldLemmas.{end-of-ranks}
+use Rattle.std.proofs.Common.{sym, ap, ◌∙◌, refl}
+use Rattle.w_model.specs.World.{world_of}
+use Rattle.w_model.specs.Texts.{end_of, end_untrapped}
+use Rattle.thin_run.proofs.ToldLemmas.{end-of-all}
 use Rattle.thin_run.proofs.told.end_of.Goals as goal
 
-pub returns-then-is_any_at_bound : goal.returns-then-is_any_at_bound
-returns-then-is_any_at_bound c = λ s h bound_is stand.
-    let bounds = sym c.is_any_at_bound.ensures ∙ c.if-is_any_at_bound.true in
-    end-of-ranks s _ h _ stand (rw (bound_is, bounds) refl)
+pub returns-in-Some : goal.returns-in-Some
+returns-in-Some c = λ code s h bound_is stand.
+    end-of-all code s _ h _ (end_untrapped s (world_of h)) stand (sym c.in-Some.is ∙ c.first_trapped.ensures) refl
 
-pub returns-then-is_any_unended : goal.returns-then-is_any_unended
-returns-then-is_any_unended c = λ s h bound_is stand.
-    let bounds = sym c.is_any_at_bound.ensures ∙ c.if-is_any_at_bound.false in
-    let unended = sym c.is_any_unended.ensures ∙ c.if-is_any_unended.true in
-    end-of-ranks s _ h _ stand (rw (bound_is, bounds, unended) refl)
-
-pub returns-else-is_any_unended : goal.returns-else-is_any_unended
-returns-else-is_any_unended c = λ s h bound_is stand.
-    let bounds = sym c.is_any_at_bound.ensures ∙ c.if-is_any_at_bound.false in
-    let unended = sym c.is_any_unended.ensures ∙ c.if-is_any_unended.false in
-    end-of-ranks s _ h _ stand (rw (bound_is, bounds, unended) refl)
+pub returns-in-None : goal.returns-in-None
+returns-in-None c = λ code s h bound_is stand.
+    end-of-all code s _ h _ c.end_untrapped.result stand (sym c.in-None.is ∙ c.first_trapped.ensures) (c.end_untrapped.ensures code s h bound_is stand)

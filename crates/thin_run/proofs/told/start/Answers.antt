@@ -3,7 +3,7 @@ use Rattle.thin_run.proofs.ToldLemmas.{stand-start, all-append}
 use Rattle.thin_run.proofs.told.start.Goals as goal
 
 pub returns : goal.returns
-returns c = λ bound. stand-start _ _ bound _ (omega (arith, c.loop.invariant.0)) c.loop.invariant.1
+returns c = λ bound. stand-start _ _ _ bound _ (omega (arith, c.loop.invariant.0)) c.loop.invariant.1
 
 pub loop-preserved : goal.loop-preserved
 loop-preserved c =

@@ -3,4 +3,4 @@ use Rattle.thin_run.proofs.StepLemmas.{stands-start}
 use Rattle.thin_run.proofs.rank.Rank.new.Goals as goal
 
 pub returns-clause-start : goal.returns-clause-start
-returns-clause-start c = stands-start _ _ refl refl c.new.ensures
+returns-clause-start c = stands-start _ _ _ c.requires c.new.ensures refl

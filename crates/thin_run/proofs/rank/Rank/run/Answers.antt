@@ -1,13 +1,9 @@
-use Rattle.std.proofs.Common.{arith}
-use Rattle.thin_run.proofs.StepLemmas.{ticked-none, ticked-more}
+use Rattle.std.proofs.Common.{sym, refl}
+use Rattle.thin_run.proofs.StepLemmas.{goes-on, ran-none, ran-machine, unended-paused}
 use Rattle.thin_run.proofs.rank.Rank.run.Goals as goal
 
-pub loop-taken-init : goal.loop-taken-init
-loop-taken-init c = (ticked-none _ _ _ c.requires, omega arith)
+pub go-requires-clause-goes : goal.go-requires-clause-goes
+go-requires-clause-goes c = goes-on _ c.args.compiled.now.program c.args.self.now c.requires.stands (unended-paused _ (sym c.if-not-is_unended.ensures))
 
-pub loop-taken-preserved : goal.loop-taken-preserved
-loop-taken-preserved c = (
-  ticked-more _ _ _ c.loop-taken.self c.tick.new.self _ c.loop-taken.invariant.0 (c.is_unended.ensures.told.0 c.if-is_unended.true)
-      c.if-self-bound.true c.in_ok-tick.ensures.stands c.in_ok-tick.ensures.ticks,
-  omega arith,
-)
+pub returns : goal.returns
+returns c = ran-machine _ _ _ _ c.min-most.result _ c.args.self.now _ c.requires.stands (unended-paused _ (sym c.if-not-is_unended.ensures)) c.min-most.ensures refl c.in_ok-self.ensures
