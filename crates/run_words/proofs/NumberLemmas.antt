@@ -1,4 +1,4 @@
--- What `parse` gives for the value of `--ranks`.
+-- What `parse` gives for the values of `--ranks` and `--ticks`.
 use Rattle.std.proofs.Common.{◌≡◌, ℕ, ◌+◌, ◌-◌, ◌*◌, ◌^◌, ◌<◌, ◌&&◌, Bool, true, false, cond, leb, List, None, Some, Result, Ok, Err, refl, sym, ap, ◌∙◌, fold, arith, rules}
 use Rattle.std.proofs.lemmas.Bool.{and_parts, and_right, leb-true, lt-leb, cond-false}
 use Rattle.std.proofs.lemmas.Option.{none-some, same_Some}
@@ -8,7 +8,7 @@ use Rattle.std.specs.List.{list_all}
 use Rattle.std.specs.Result.{OkIff, result_ok}
 use Rattle.std.specs.Str.Parse.{ParsesUnsigned}
 use Rattle.run_words.specs.Words.{is_digit, number_of}
-use Rattle.run_words.specs.Reading.{is_number, is_ranks_value, ranks_said}
+use Rattle.run_words.specs.Reading.{is_number, is_ranks_value, ranks_said, is_ticks_value, ticks_said}
 
 -- the number that digits spell behind those of another
 abbrev number_after : ℕ → List ℕ → ℕ
@@ -22,12 +22,12 @@ OkIff-like (Ok x) P Q v to from h = (to h.0, h.1)
 OkIff-like (Err e) P Q v to from h = λ q. h (from q)
 
 -- a number's digits are read, unless it is above the type's greatest
-pub parsed : {E : Type 0} (word : List ℕ) (r : Result ℕ E) → is_number word ≡ true → ParsesUnsigned 16 10 word r
-    → OkIff r (number_of word < 2 ^ 16) (number_of word)
-parsed word r e h =
+pub parsed : {E : Type 0} (bits : ℕ) (word : List ℕ) (r : Result ℕ E) → is_number word ≡ true → ParsesUnsigned bits 10 word r
+    → OkIff r (number_of word < 2 ^ bits) (number_of word)
+parsed bits word r e h =
     let digits = and_parts _ _ e in
     let long = leb-true _ _ (and_parts _ _ digits.0).0 in
-    OkIff-like r _ _ _ (λ p. p.1) (λ q. (long, q)) (parse_digits own 16 word r h digits.1)
+    OkIff-like r _ _ _ (λ p. p.1) (λ q. (long, q)) (parse_digits own bits word r h digits.1)
 
 above : (n : ℕ) → (n < 2 ^ 16 → ⊥) → 256 < n
 above n h = omega arith
@@ -52,3 +52,23 @@ ranks_said-read word (Ok x) ranks fits number h e f =
     then_some-cond fits ranks ∙ ap (λ b. cond b (Some ranks) None) test
     ∙ ap (λ n. cond (is_ranks_value word) (Some n) None) same
 ranks_said-read word (Err d) ranks fits number h e f = absurd (none-some ranks (sym e))
+
+beyond : (n : ℕ) → (n < 2 ^ 64 → ⊥) → 16000000 < n
+beyond n h = omega arith
+
+pub ticks_said-large : {E : Type 0} (word : List ℕ) (r : Result ℕ E) → OkIff r (number_of word < 2 ^ 64) (number_of word)
+    → None ≡ result_ok r → None ≡ ticks_said word
+ticks_said-large word (Ok x) h e = absurd (none-some x e)
+ticks_said-large word (Err d) h e = sym (cond-false _ _ _ (and_right _ _ (lt-leb (number_of word) 16000000 (beyond (number_of word) h))))
+
+pub ticks_said-read : {E : Type 0} (word : List ℕ) (r : Result ℕ E) (ticks : ℕ) (fits : Bool) → is_number word ≡ true
+    → OkIff r (number_of word < 2 ^ 64) (number_of word)
+    → Some ticks ≡ result_ok r → fits ≡ leb ticks 16000000 → then_some fits ticks ≡ ticks_said word
+ticks_said-read word (Ok x) ticks fits number h e f =
+    let same : ticks ≡ number_of word = same_Some ticks x e ∙ h.1 in
+    let value : is_ticks_value word ≡ leb (number_of word) 16000000 =
+    ap (λ b. b && leb (number_of word) 16000000) number in
+    let test : fits ≡ is_ticks_value word = f ∙ ap (λ n. leb n 16000000) same ∙ sym value in
+    then_some-cond fits ticks ∙ ap (λ b. cond b (Some ticks) None) test
+    ∙ ap (λ n. cond (is_ticks_value word) (Some n) None) same
+ticks_said-read word (Err d) ticks fits number h e f = absurd (none-some ticks (sym e))

@@ -11,9 +11,9 @@ use Rattle.std.specs.Global.{Global}
 use Rattle.std.specs.List.{flat_map, list_all, AllByRecursion}
 use Rattle.std.specs.Str.{bytes_eq}
 use Rattle.run_words.specs.Asks.{IsJournalOf}
-use Rattle.run_words.specs.Words.{Part, words_of, IsPlain, IsNumber, IsWellFormed, is_digit, number_of, sources_in, ranks_in, journals_in, Chooses, Asked, AskForRun}
-use Rattle.run_words.specs.Words.Part.{Source, Ranks, Journal}
-use Rattle.run_words.specs.Reading.{Said, nothing_said, is_number, is_plain, is_ranks_value, with_file, with_ranks, with_journal, said_with, asked_by, asked_of}
+use Rattle.run_words.specs.Words.{Part, words_of, IsPlain, IsNumber, IsWellFormed, is_digit, number_of, sources_in, ranks_in, ticks_in, journals_in, Chooses, Asked, AskForRun}
+use Rattle.run_words.specs.Words.Part.{Source, Ranks, Ticks, Journal}
+use Rattle.run_words.specs.Reading.{Said, nothing_said, is_number, is_plain, is_ranks_value, is_ticks_value, with_file, with_ranks, with_ticks, with_journal, said_with, asked_by, asked_of}
 
 -- the tests of one word
 
@@ -51,10 +51,22 @@ is_ranks_value-from_IsWellFormed word p =
     and_from _ _ (and_from _ _ (le-leb _ _ p.0.0) (le-leb _ _ p.0.1)) (list_all-digits word p.0.2) in
     and_from _ _ (and_from _ _ number (le-leb _ _ p.1)) (le-leb _ _ p.2)
 
+pub ticks-from_test : (word : List ℕ) → is_ticks_value word ≡ true → IsWellFormed (Ticks word)
+ticks-from_test word e =
+    let below = and_parts _ _ e in
+    (IsNumber-from_test word below.0, leb-true _ _ below.1)
+
+pub is_ticks_value-from_IsWellFormed : (word : List ℕ) → IsWellFormed (Ticks word) → is_ticks_value word ≡ true
+is_ticks_value-from_IsWellFormed word p =
+    let number : is_number word ≡ true =
+    and_from _ _ (and_from _ _ (le-leb _ _ p.0.0) (le-leb _ _ p.0.1)) (list_all-digits word p.0.2) in
+    and_from _ _ number (le-leb _ _ p.1)
+
 -- a plain word is no option's name
-plain_is_no_option : (word : List ℕ) → IsPlain word → (bytes_eq word (codes "--ranks") ≡ false) × (bytes_eq word (codes "--journal") ≡ false)
+plain_is_no_option : (word : List ℕ) → IsPlain word
+    → (bytes_eq word (codes "--ranks") ≡ false) × (bytes_eq word (codes "--journal") ≡ false) × (bytes_eq word (codes "--ticks") ≡ false)
 plain_is_no_option [] p = absurd p
-plain_is_no_option (b ∷ bs) p = (and_left _ _ (ne_eqb b 45 p), and_left _ _ (ne_eqb b 45 p))
+plain_is_no_option (b ∷ bs) p = (and_left _ _ (ne_eqb b 45 p), and_left _ _ (ne_eqb b 45 p), and_left _ _ (ne_eqb b 45 p))
 
 -- The values come in order behind what was said before: the first only where nothing was said, and no second one.
 abbrev Adds : {X : Type 0} → (List ℕ → X) → List (List ℕ) → Option X → Option X → Type 0
@@ -65,6 +77,7 @@ Adds value (word ∷ words) before after = (before ≡ None) × Adds value words
 record Fills (parts : List Part) (before after : Said) : Type 0 where
   file : Adds (λ name. name) (sources_in parts) before.file after.file
   ranks : Adds number_of (ranks_in parts) before.ranks after.ranks
+  ticks : Adds number_of (ticks_in parts) before.ticks after.ticks
   journal : Adds (λ name. name) (journals_in parts) before.journal after.journal
 
 -- The words are the parts that say what is new.
@@ -91,7 +104,7 @@ reads_file name words before middle after e r =
       parts = Source name ∷ r.parts;
       spelled = ap (λ rest. name ∷ rest) r.spelled;
       well_formed = (IsPlain-from_test name tests.0, r.well_formed);
-      fills = record { file = (nothing_was before.file tests.1, fills.file); ranks = fills.ranks; journal = fills.journal };
+      fills = record { file = (nothing_was before.file tests.1, fills.file); ranks = fills.ranks; ticks = fills.ticks; journal = fills.journal };
     }
 
 reads_ranks : (value : List ℕ) (words : List (List ℕ)) (before middle after : Said)
@@ -105,7 +118,21 @@ reads_ranks value words before middle after e r =
       parts = Ranks value ∷ r.parts;
       spelled = ap (λ rest. codes "--ranks" ∷ value ∷ rest) r.spelled;
       well_formed = (IsWellFormed-from_test value tests.1, r.well_formed);
-      fills = record { file = fills.file; ranks = (nothing_was before.ranks tests.0, fills.ranks); journal = fills.journal };
+      fills = record { file = fills.file; ranks = (nothing_was before.ranks tests.0, fills.ranks); ticks = fills.ticks; journal = fills.journal };
+    }
+
+reads_ticks : (value : List ℕ) (words : List (List ℕ)) (before middle after : Said)
+    → with_ticks before value ≡ Some middle → Reads words middle after → Reads (codes "--ticks" ∷ value ∷ words) before after
+reads_ticks value words before middle after e r =
+    let taken = cond_some _ _ _ e in
+    let tests = and_parts _ _ taken.0 in
+    let P : Said → Type 0 = λ said. Fills r.parts said after in
+    let fills = subst P (sym taken.1) r.fills in
+    record {
+      parts = Ticks value ∷ r.parts;
+      spelled = ap (λ rest. codes "--ticks" ∷ value ∷ rest) r.spelled;
+      well_formed = (ticks-from_test value tests.1, r.well_formed);
+      fills = record { file = fills.file; ranks = fills.ranks; ticks = (nothing_was before.ticks tests.0, fills.ticks); journal = fills.journal };
     }
 
 reads_journal : (name : List ℕ) (words : List (List ℕ)) (before middle after : Said)
@@ -119,7 +146,7 @@ reads_journal name words before middle after e r =
       parts = Journal name ∷ r.parts;
       spelled = ap (λ rest. codes "--journal" ∷ name ∷ rest) r.spelled;
       well_formed = (IsPlain-from_test name tests.0, r.well_formed);
-      fills = record { file = fills.file; ranks = fills.ranks; journal = (nothing_was before.journal tests.1, fills.journal) };
+      fills = record { file = fills.file; ranks = fills.ranks; ticks = fills.ticks; journal = (nothing_was before.journal tests.1, fills.journal) };
     }
 
 reads_none : (said after : Said) → Some said ≡ Some after → Reads [] said after
@@ -129,7 +156,12 @@ reads_none said after e =
       parts = [];
       spelled = refl;
       well_formed = tt;
-      fills = record { file = ap (λ (s : Said). s.file) same; ranks = ap (λ (s : Said). s.ranks) same; journal = ap (λ (s : Said). s.journal) same };
+      fills = record {
+        file = ap (λ (s : Said). s.file) same;
+        ranks = ap (λ (s : Said). s.ranks) same;
+        ticks = ap (λ (s : Said). s.ticks) same;
+        journal = ap (λ (s : Said). s.journal) same;
+      };
     }
 
 -- what the reading says is what the parts say
@@ -154,8 +186,18 @@ Reads-from_said (word ∷ value ∷ words) before after e =
                 (option_and_then_some (said_with words) (with_journal before value) after (sym (cond-true _ _ _ is_journal) ∙ e2)
                 (λ middle one rest. reads_journal value words before middle after one (Reads-from_said words middle after rest)))
             | inr not_journal ↦
-                option_and_then_some (said_with (value ∷ words)) (with_file before word) after (sym (cond-false _ _ _ not_journal) ∙ e2)
-                (λ middle one rest. reads_file word (value ∷ words) before middle after one (Reads-from_said (value ∷ words) middle after rest))
+                let e3 = sym (cond-false _ _ _ not_journal) ∙ e2 in
+                elim (cases_Bool (bytes_eq word (codes "--ticks"))) [
+                  | inl is_ticks ↦
+                      let same : word ≡ codes "--ticks" = (bytes_eq-Decides word (codes "--ticks")).0 is_ticks in
+                      let P : List ℕ → Type 0 = λ w. Reads (w ∷ value ∷ words) before after in
+                      subst P (sym same)
+                      (option_and_then_some (said_with words) (with_ticks before value) after (sym (cond-true _ _ _ is_ticks) ∙ e3)
+                      (λ middle one rest. reads_ticks value words before middle after one (Reads-from_said words middle after rest)))
+                  | inr not_ticks ↦
+                      option_and_then_some (said_with (value ∷ words)) (with_file before word) after (sym (cond-false _ _ _ not_ticks) ∙ e3)
+                      (λ middle one rest. reads_file word (value ∷ words) before middle after one (Reads-from_said (value ∷ words) middle after rest))
+                ]
           ]
     ]
 
@@ -165,10 +207,11 @@ and_then_Some (Some x) = refl
 
 -- a word that is no option's name
 pub said_with-file : (word : List ℕ) (words : List (List ℕ)) (said : Said)
-    → bytes_eq word (codes "--ranks") ≡ false → bytes_eq word (codes "--journal") ≡ false
+    → bytes_eq word (codes "--ranks") ≡ false → bytes_eq word (codes "--journal") ≡ false → bytes_eq word (codes "--ticks") ≡ false
     → said_with (word ∷ words) said ≡ option_and_then (said_with words) (with_file said word)
-said_with-file word [] said no_ranks no_journal = sym (and_then_Some (with_file said word))
-said_with-file word (value ∷ words) said no_ranks no_journal = cond-false _ _ _ no_ranks ∙ cond-false _ _ _ no_journal
+said_with-file word [] said no_ranks no_journal no_ticks = sym (and_then_Some (with_file said word))
+said_with-file word (value ∷ words) said no_ranks no_journal no_ticks =
+    cond-false _ _ _ no_ranks ∙ cond-false _ _ _ no_journal ∙ cond-false _ _ _ no_ticks
 
 -- an option and its value
 pub said_with-ranks : (word value : List ℕ) (words after : List (List ℕ)) (said more : Said)
@@ -184,41 +227,55 @@ said_with-journal word name words after said more no_ranks is_journal e one =
     ap (λ ws. said_with (word ∷ ws) said) e ∙ cond-false _ _ _ no_ranks ∙ cond-true _ _ _ is_journal
     ∙ ap (option_and_then (said_with words)) (sym one)
 
+pub said_with-ticks : (word value : List ℕ) (words after : List (List ℕ)) (said more : Said)
+    → bytes_eq word (codes "--ranks") ≡ false → bytes_eq word (codes "--journal") ≡ false → bytes_eq word (codes "--ticks") ≡ true
+    → after ≡ value ∷ words → Some more ≡ with_ticks said value → said_with (word ∷ after) said ≡ said_with words more
+said_with-ticks word value words after said more no_ranks no_journal is_ticks e one =
+    ap (λ ws. said_with (word ∷ ws) said) e ∙ cond-false _ _ _ no_ranks ∙ cond-false _ _ _ no_journal ∙ cond-true _ _ _ is_ticks
+    ∙ ap (option_and_then (said_with words)) (sym one)
+
 said_with-plain : (word : List ℕ) (words : List (List ℕ)) (said : Said) → IsPlain word
     → said_with (word ∷ words) said ≡ option_and_then (said_with words) (with_file said word)
 said_with-plain word words said p =
-    let no_option = plain_is_no_option word p in said_with-file word words said no_option.0 no_option.1
+    let no_option = plain_is_no_option word p in said_with-file word words said no_option.0 no_option.1 no_option.2
 
-same_said : (a b : Said) → a.file ≡ b.file → a.ranks ≡ b.ranks → a.journal ≡ b.journal → a ≡ b
-same_said a b file ranks journal = λ i. record { file = file i; ranks = ranks i; journal = journal i }
+same_said : (a b : Said) → a.file ≡ b.file → a.ranks ≡ b.ranks → a.ticks ≡ b.ticks → a.journal ≡ b.journal → a ≡ b
+same_said a b file ranks ticks journal = λ i. record { file = file i; ranks = ranks i; ticks = ticks i; journal = journal i }
 
-same_asked : (a b : Asked) → a.file ≡ b.file → a.ranks ≡ b.ranks → a.journal ≡ b.journal → a ≡ b
-same_asked a b file ranks journal = λ i. record { file = file i; ranks = ranks i; journal = journal i }
+same_asked : (a b : Asked) → a.file ≡ b.file → a.ranks ≡ b.ranks → a.ticks ≡ b.ticks → a.journal ≡ b.journal → a ≡ b
+same_asked a b file ranks ticks journal = λ i. record { file = file i; ranks = ranks i; ticks = ticks i; journal = journal i }
 
 -- what the parts say is what the reading says
 said_with-parts : (parts : List Part) (before after : Said) → AllByRecursion IsWellFormed parts → Fills parts before after
     → said_with (flat_map words_of parts) before ≡ Some after
-said_with-parts [] before after p f = ap (λ (s : Said). Some s) (same_said before after (sym f.file) (sym f.ranks) (sym f.journal))
+said_with-parts [] before after p f = ap (λ (s : Said). Some s) (same_said before after (sym f.file) (sym f.ranks) (sym f.ticks) (sym f.journal))
 said_with-parts (Source name ∷ parts) before after p f =
     let words = flat_map words_of parts in
     let middle : Said = record before { file = Some name } in
     let one : with_file before name ≡ Some middle =
     cond-true _ _ _ (and_from _ _ (is_plain-from_IsPlain name p.0) (ap is_none f.file.0)) in
-    let fills : Fills parts middle after = record { file = f.file.1; ranks = f.ranks; journal = f.journal } in
+    let fills : Fills parts middle after = record { file = f.file.1; ranks = f.ranks; ticks = f.ticks; journal = f.journal } in
     said_with-plain name words before p.0 ∙ ap (option_and_then (said_with words)) one ∙ said_with-parts parts middle after p.1 fills
 said_with-parts (Ranks value ∷ parts) before after p f =
     let words = flat_map words_of parts in
     let middle : Said = record before { ranks = Some (number_of value) } in
     let one : with_ranks before value ≡ Some middle =
     cond-true _ _ _ (and_from _ _ (ap is_none f.ranks.0) (is_ranks_value-from_IsWellFormed value p.0)) in
-    let fills : Fills parts middle after = record { file = f.file; ranks = f.ranks.1; journal = f.journal } in
+    let fills : Fills parts middle after = record { file = f.file; ranks = f.ranks.1; ticks = f.ticks; journal = f.journal } in
+    ap (option_and_then (said_with words)) one ∙ said_with-parts parts middle after p.1 fills
+said_with-parts (Ticks value ∷ parts) before after p f =
+    let words = flat_map words_of parts in
+    let middle : Said = record before { ticks = Some (number_of value) } in
+    let one : with_ticks before value ≡ Some middle =
+    cond-true _ _ _ (and_from _ _ (ap is_none f.ticks.0) (is_ticks_value-from_IsWellFormed value p.0)) in
+    let fills : Fills parts middle after = record { file = f.file; ranks = f.ranks; ticks = f.ticks.1; journal = f.journal } in
     ap (option_and_then (said_with words)) one ∙ said_with-parts parts middle after p.1 fills
 said_with-parts (Journal name ∷ parts) before after p f =
     let words = flat_map words_of parts in
     let middle : Said = record before { journal = Some name } in
     let one : with_journal before name ≡ Some middle =
     cond-true _ _ _ (and_from _ _ (is_plain-from_IsPlain name p.0) (ap is_none f.journal.0)) in
-    let fills : Fills parts middle after = record { file = f.file; ranks = f.ranks; journal = f.journal.1 } in
+    let fills : Fills parts middle after = record { file = f.file; ranks = f.ranks; ticks = f.ticks; journal = f.journal.1 } in
     ap (option_and_then (said_with words)) one ∙ said_with-parts parts middle after p.1 fills
 
 -- an option that stands once at most
@@ -246,17 +303,21 @@ Adds-chosen value choice [] c h = (refl, sym h)
 Adds-chosen value choice (w ∷ []) c h = ((refl, refl), sym h)
 Adds-chosen value choice (w ∷ v ∷ words) c h = absurd h
 
-asked_parts_of : (file : Option (List ℕ)) (ranks : ℕ) (journal : Option (List ℕ)) (asked : Asked)
-    → option_map (λ name. record { file = name; ranks = ranks; journal = journal }) file ≡ Some asked
-    → (file ≡ Some asked.file) × (ranks ≡ asked.ranks) × (journal ≡ asked.journal)
-asked_parts_of None ranks journal asked e = absurd (none-some asked e)
-asked_parts_of (Some name) ranks journal asked e =
-    let same = same_Some _ _ e in
-    (ap (λ (a : Asked). Some a.file) same, ap (λ (a : Asked). a.ranks) same, ap (λ (a : Asked). a.journal) same)
+asked_parts_of : (file : Option (List ℕ)) (ranks ticks : ℕ) (journal : Option (List ℕ)) (asked : Asked)
+    → option_map (λ name. record { file = name; ranks = ranks; ticks = ticks; journal = journal }) file ≡ Some asked
+    → (file ≡ Some asked.file) × (ranks ≡ asked.ranks) × (ticks ≡ asked.ticks) × (journal ≡ asked.journal)
+asked_parts_of None ranks ticks journal asked e = absurd (none-some asked e)
+asked_parts_of (Some name) ranks ticks journal asked e =
+    let same = same_Some _ _ e in (
+      ap (λ (a : Asked). Some a.file) same,
+      ap (λ (a : Asked). a.ranks) same,
+      ap (λ (a : Asked). a.ticks) same,
+      ap (λ (a : Asked). a.journal) same,
+    )
 
 asked_parts : (said : Said) (asked : Asked) → asked_by said ≡ Some asked
-    → (said.file ≡ Some asked.file) × (unwrap_or said.ranks 1 ≡ asked.ranks) × (said.journal ≡ asked.journal)
-asked_parts said asked e = asked_parts_of said.file (unwrap_or said.ranks 1) said.journal asked e
+    → (said.file ≡ Some asked.file) × (unwrap_or said.ranks 1 ≡ asked.ranks) × (unwrap_or said.ticks 1000000 ≡ asked.ticks) × (said.journal ≡ asked.journal)
+asked_parts said asked e = asked_parts_of said.file (unwrap_or said.ranks 1) (unwrap_or said.ticks 1000000) said.journal asked e
 
 asks : (words : List (List ℕ)) (said : Said) (asked : Asked) → said_with words nothing_said ≡ Some said → asked_by said ≡ Some asked
     → AskForRun (codes "run" ∷ words) asked
@@ -264,6 +325,7 @@ asks words said asked one rest =
     let r = Reads-from_said words nothing_said said one in
     let same = asked_parts said asked rest in
     let P : ℕ → Type 0 = Chooses (ranks_in r.parts) number_of 1 in
+    let T : ℕ → Type 0 = Chooses (ticks_in r.parts) number_of 1000000 in
     let Q : Option (List ℕ) → Type 0 = Chooses (journals_in r.parts) Some None in
     record {
       parts = r.parts;
@@ -271,7 +333,8 @@ asks words said asked one rest =
       well_formed = r.well_formed;
       one_source = only_one _ _ _ r.fills.file same.0;
       ranks = subst P same.1 (chosen number_of (λ o. unwrap_or o 1) (ranks_in r.parts) said.ranks r.fills.ranks);
-      journal = subst Q same.2 (chosen (λ n. n) (λ o. o) (journals_in r.parts) said.journal r.fills.journal);
+      ticks = subst T same.2 (chosen number_of (λ o. unwrap_or o 1000000) (ticks_in r.parts) said.ticks r.fills.ticks);
+      journal = subst Q same.3 (chosen (λ n. n) (λ o. o) (journals_in r.parts) said.journal r.fills.journal);
     }
 
 pub AskForRun-from_asked : (words : List (List ℕ)) (asked : Asked) → asked_of words ≡ Some asked → AskForRun words asked
@@ -291,18 +354,20 @@ pub asked_of-from_AskForRun : (words : List (List ℕ)) (asked : Asked) → AskF
 asked_of-from_AskForRun words asked a =
     let spelled = flat_map words_of a.parts in
     let ranks = Adds-chosen number_of (λ o. unwrap_or o 1) (ranks_in a.parts) asked.ranks a.ranks in
+    let ticks = Adds-chosen number_of (λ o. unwrap_or o 1000000) (ticks_in a.parts) asked.ticks a.ticks in
     let journal = Adds-chosen (λ n. n) (λ o. o) (journals_in a.parts) asked.journal a.journal in
     let said : Said = record {
       file = Some asked.file;
       ranks = first_said number_of (ranks_in a.parts);
+      ticks = first_said number_of (ticks_in a.parts);
       journal = first_said (λ n. n) (journals_in a.parts);
     } in
     let P : List (List ℕ) → Type 0 = λ names. Adds (λ n. n) names None (Some asked.file) in
     let fills : Fills a.parts nothing_said said =
-    record { file = subst P (sym a.one_source) (refl, refl); ranks = ranks.0; journal = journal.0 } in
+    record { file = subst P (sym a.one_source) (refl, refl); ranks = ranks.0; ticks = ticks.0; journal = journal.0 } in
     let one : said_with spelled nothing_said ≡ Some said = said_with-parts a.parts nothing_said said a.well_formed fills in
-    let asks_for : Asked = record { file = asked.file; ranks = unwrap_or said.ranks 1; journal = said.journal } in
-    let same : asks_for ≡ asked = same_asked asks_for asked refl ranks.1 journal.1 in
+    let asks_for : Asked = record { file = asked.file; ranks = unwrap_or said.ranks 1; ticks = unwrap_or said.ticks 1000000; journal = said.journal } in
+    let same : asks_for ≡ asked = same_asked asks_for asked refl ranks.1 ticks.1 journal.1 in
     ap asked_of a.spelled ∙ ap (option_and_then asked_by) one ∙ ap (λ (x : Asked). Some x) same
 
 pub one_run : (words : List (List ℕ)) (a b : Asked) → AskForRun words a → AskForRun words b → a ≡ b

@@ -12,12 +12,13 @@ bytes_of_words words = map string_bytes words.items
 abbrev pub AreAccepted : List (List ℕ) → Type 0
 AreAccepted words = (asked : Asked) × AskForRun words asked
 
--- The words ask for a run with the command's file and ranks.
+-- The words ask for a run with the command's file, ranks and ticks.
 pub record IsAccepted (words : List (List ℕ)) (command : Command) : Type 0 where
   pub asked : Asked
   pub asks : AskForRun words asked
   pub file : string_bytes command.file ≡ asked.file
   pub ranks : command.ranks ≡ asked.ranks
+  pub ticks : command.ticks ≡ asked.ticks
 
 -- The words ask for a run with this journal, or with none.
 pub record IsJournalOf (words : List (List ℕ)) (journal : Option (List ℕ)) : Type 0 where

@@ -9,10 +9,11 @@ use Rattle.run_words.specs.Words.{Asked, is_digit, number_of}
 pub record Said : Type 0 where
   pub file : Option (List ℕ)
   pub ranks : Option ℕ
+  pub ticks : Option ℕ
   pub journal : Option (List ℕ)
 
 abbrev pub nothing_said : Said
-nothing_said = record { file = None; ranks = None; journal = None }
+nothing_said = record { file = None; ranks = None; ticks = None; journal = None }
 
 abbrev pub is_plain : List ℕ → Bool
 is_plain [] = false
@@ -24,6 +25,9 @@ is_number word = nat_le 1 (length word) && nat_le (length word) 20 && list_all i
 
 abbrev pub is_ranks_value : List ℕ → Bool
 is_ranks_value word = is_number word && nat_le 1 (number_of word) && nat_le (number_of word) 256
+
+abbrev pub is_ticks_value : List ℕ → Bool
+is_ticks_value word = is_number word && nat_le (number_of word) 16000000
 
 -- what is said with one part more, if it may stand there
 abbrev pub with_file : Said → List ℕ → Option Said
@@ -37,6 +41,14 @@ abbrev pub with_ranks : Said → List ℕ → Option Said
 with_ranks said value =
     if is_none said.ranks && is_ranks_value value then Some (record said { ranks = Some (number_of value) }) else None
 
+-- the number that a value of `--ticks` writes, if it may be one
+abbrev pub ticks_said : List ℕ → Option ℕ
+ticks_said value = if is_ticks_value value then Some (number_of value) else None
+
+abbrev pub with_ticks : Said → List ℕ → Option Said
+with_ticks said value =
+    if is_none said.ticks && is_ticks_value value then Some (record said { ticks = Some (number_of value) }) else None
+
 abbrev pub with_journal : Said → List ℕ → Option Said
 with_journal said name = if is_plain name && is_none said.journal then Some (record said { journal = Some name }) else None
 
@@ -47,11 +59,12 @@ said_with (word ∷ []) said = with_file said word
 said_with (word ∷ value ∷ words) said =
     if bytes_eq word (codes "--ranks") then option_and_then (said_with words) (with_ranks said value)
     else (if bytes_eq word (codes "--journal") then option_and_then (said_with words) (with_journal said value)
-    else option_and_then (said_with (value ∷ words)) (with_file said word))
+    else (if bytes_eq word (codes "--ticks") then option_and_then (said_with words) (with_ticks said value)
+    else option_and_then (said_with (value ∷ words)) (with_file said word)))
 
--- one rank where the words don't say how many
+-- one rank and 1,000,000 ticks where the words don't say how many
 abbrev pub asked_by : Said → Option Asked
-asked_by said = option_map (λ file. record { file = file; ranks = unwrap_or said.ranks 1; journal = said.journal }) said.file
+asked_by said = option_map (λ file. record { file = file; ranks = unwrap_or said.ranks 1; ticks = unwrap_or said.ticks 1000000; journal = said.journal }) said.file
 
 abbrev pub asked_of : List (List ℕ) → Option Asked
 asked_of [] = None

@@ -6,7 +6,7 @@ use Rattle.run_words.specs.declared.reading.Found.{Found}
 use Rattle.run_words.specs.declared.reading.Run.{Run}
 
 abbrev pub said_by : Found → Said
-said_by found = record { file = option_copied found.file; ranks = found.ranks; journal = option_copied found.journal }
+said_by found = record { file = option_copied found.file; ranks = found.ranks; ticks = found.ticks; journal = option_copied found.journal }
 
 abbrev pub asked_in : Run → Asked
-asked_in run = record { file = run.file.now; ranks = run.ranks; journal = option_copied run.journal }
+asked_in run = record { file = run.file.now; ranks = run.ranks; ticks = run.ticks; journal = option_copied run.journal }

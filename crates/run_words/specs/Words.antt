@@ -10,12 +10,15 @@ pub data Part : Type 0 where
   Source : List ℕ → Part
   -- `--ranks`, with the word of its value
   Ranks : List ℕ → Part
+  -- `--ticks`, with the word of its value
+  Ticks : List ℕ → Part
   -- `--journal`, with the word of its value
   Journal : List ℕ → Part
 
 abbrev pub words_of : Part → List (List ℕ)
 words_of (Source name) = name ∷ []
 words_of (Ranks value) = codes "--ranks" ∷ value ∷ []
+words_of (Ticks value) = codes "--ticks" ∷ value ∷ []
 words_of (Journal name) = codes "--journal" ∷ name ∷ []
 
 -- a value or a file's name: it isn't empty, and no dash begins it
@@ -37,25 +40,36 @@ number_of word = fold (λ n b. 10 * n + (b - 48)) 0 word
 abbrev pub IsWellFormed : Part → Type 0
 IsWellFormed (Source name) = IsPlain name
 IsWellFormed (Ranks value) = IsNumber value × (1 ≤ number_of value) × (number_of value ≤ 256)
+IsWellFormed (Ticks value) = IsNumber value × (number_of value ≤ 16000000)
 IsWellFormed (Journal name) = IsPlain name
 
--- the names of the sources, the values of `--ranks`, the values of `--journal`, each in order
+-- the names of the sources, and the values of each option, in order
 abbrev pub sources_in : List Part → List (List ℕ)
 sources_in [] = []
 sources_in (Source name ∷ parts) = name ∷ sources_in parts
 sources_in (Ranks value ∷ parts) = sources_in parts
+sources_in (Ticks value ∷ parts) = sources_in parts
 sources_in (Journal name ∷ parts) = sources_in parts
 
 abbrev pub ranks_in : List Part → List (List ℕ)
 ranks_in [] = []
 ranks_in (Source name ∷ parts) = ranks_in parts
 ranks_in (Ranks value ∷ parts) = value ∷ ranks_in parts
+ranks_in (Ticks value ∷ parts) = ranks_in parts
 ranks_in (Journal name ∷ parts) = ranks_in parts
+
+abbrev pub ticks_in : List Part → List (List ℕ)
+ticks_in [] = []
+ticks_in (Source name ∷ parts) = ticks_in parts
+ticks_in (Ranks value ∷ parts) = ticks_in parts
+ticks_in (Ticks value ∷ parts) = value ∷ ticks_in parts
+ticks_in (Journal name ∷ parts) = ticks_in parts
 
 abbrev pub journals_in : List Part → List (List ℕ)
 journals_in [] = []
 journals_in (Source name ∷ parts) = journals_in parts
 journals_in (Ranks value ∷ parts) = journals_in parts
+journals_in (Ticks value ∷ parts) = journals_in parts
 journals_in (Journal name ∷ parts) = name ∷ journals_in parts
 
 -- an option that stands once at most chooses its value, and where it doesn't stand the default is chosen
@@ -64,10 +78,12 @@ Chooses [] value default chosen = chosen ≡ default
 Chooses (word ∷ []) value default chosen = chosen ≡ value word
 Chooses (word ∷ more ∷ words) value default chosen = ⊥
 
--- What accepted words that begin with `run` ask for.
+-- What accepted words that begin with `run` ask for: the source's file, the number of ranks, the bound on each rank's
+-- ticks, and the journal's file.
 pub record Asked : Type 0 where
   pub file : List ℕ
   pub ranks : ℕ
+  pub ticks : ℕ
   pub journal : Option (List ℕ)
 
 -- The words ask for this run.
@@ -77,4 +93,5 @@ pub record AskForRun (words : List (List ℕ)) (asked : Asked) : Type 0 where
   pub well_formed : AllByRecursion IsWellFormed parts
   pub one_source : sources_in parts ≡ asked.file ∷ []
   pub ranks : Chooses (ranks_in parts) number_of 1 asked.ranks
+  pub ticks : Chooses (ticks_in parts) number_of 1000000 asked.ticks
   pub journal : Chooses (journals_in parts) Some None asked.journal

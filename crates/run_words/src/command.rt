@@ -11,12 +11,14 @@ use thiserror::Error;
 pub struct Command {
     pub file: String,
     pub ranks: u16,
+    /// The bound on each rank's ticks.
+    pub ticks: u64,
 }
 
 /// Why no command was read.
 #[derive(Debug, Drop, Error)]
 pub enum WordsError {
-    #[error("usage: ampi run [--ranks N] [--journal FILE] FILE")]
+    #[error("usage: ampi run [--ranks N] [--ticks N] [--journal FILE] FILE")]
     Bad,
     #[error("out of memory")]
     Memory,
@@ -43,6 +45,7 @@ pub fn read_words(alloc: Global, words: &Vec<String>) -> Result<Command, WordsEr
     Ok(Command {
         file: String::from_str(alloc, run.file)?,
         ranks: run.ranks,
+        ticks: run.ticks,
     })
 }
 
@@ -57,10 +60,15 @@ pub fn journal_name(words: &Vec<String>) -> Option<&str>
 /// A law: words ask for one run at most.
 pub fn one_meaning()
     ensures { (words : _) (a b : _) → AskForRun words a → AskForRun words b
-        → (a.file ≡ b.file) × (a.ranks ≡ b.ranks) × (a.journal ≡ b.journal) }
+        → (a.file ≡ b.file) × (a.ranks ≡ b.ranks) × (a.ticks ≡ b.ticks) × (a.journal ≡ b.journal) }
 {}
 
 /// A law: words ask for 1 to 256 ranks.
 pub fn ranks_are_few()
     ensures { (words : _) (asked : _) → AskForRun words asked → (1 ≤ asked.ranks) × (asked.ranks ≤ 256) }
+{}
+
+/// A law: words ask for at most 16,000,000 ticks.
+pub fn ticks_are_bounded()
+    ensures { (words : _) (asked : _) → AskForRun words asked → asked.ticks ≤ 16000000 }
 {}

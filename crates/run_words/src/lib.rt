@@ -1,10 +1,12 @@
-//! The words of the command line, as `ampi run [--ranks N] [--journal FILE] FILE` takes them.
+//! The words of the command line, as `ampi run [--ranks N] [--ticks N] [--journal FILE] FILE` takes them.
 #![tactic(auto)]
 
 mod command;
 mod reading;
 
-pub use command::{Command, WordsError, journal_name, one_meaning, ranks_are_few, read_words};
+pub use command::{
+    Command, WordsError, journal_name, one_meaning, ranks_are_few, read_words, ticks_are_bounded,
+};
 
 #[cfg(test)]
 mod tests;

@@ -1,6 +1,6 @@
 ghost use Rattle.std.specs.Prelude.{◌≡◌, ◌≤◌, ◌∷◌, length, map, string_bytes, None, IfSome, MatchOption};
 ghost use Rattle.std.specs.Option.{option_map};
-ghost use Rattle.run_words.specs.Reading.{Said, nothing_said, is_number as is_number_lem, is_plain as is_plain_lem, ranks_said, with_file as with_file_lem, with_ranks as with_ranks_lem, with_journal as with_journal_lem, said_with, asked_of};
+ghost use Rattle.run_words.specs.Reading.{Said, nothing_said, is_number as is_number_lem, is_plain as is_plain_lem, ranks_said, ticks_said, with_file as with_file_lem, with_ranks as with_ranks_lem, with_ticks as with_ticks_lem, with_journal as with_journal_lem, said_with, asked_of};
 ghost use Rattle.run_words.specs.Views.{said_by, asked_in};
 
 /// What accepted words ask for, borrowed from them.
@@ -8,6 +8,7 @@ ghost use Rattle.run_words.specs.Views.{said_by, asked_in};
 pub struct Run<'a> {
     pub file: &'a str,
     pub ranks: u16,
+    pub ticks: u64,
     pub journal: Option<&'a str>,
 }
 
@@ -16,6 +17,7 @@ pub struct Run<'a> {
 struct Found<'a> {
     file: Option<&'a str>,
     ranks: Option<u16>,
+    ticks: Option<u64>,
     journal: Option<&'a str>,
 }
 
@@ -31,6 +33,7 @@ pub fn run_of(words: &[String]) -> Option<Run<'_>>
     Some(Run {
         file: found.file?,
         ranks: found.ranks.unwrap_or(1),
+        ticks: found.ticks.unwrap_or(1_000_000),
         journal: found.journal,
     })
 }
@@ -42,6 +45,7 @@ fn found_in(words: &[String]) -> Option<Found<'_>>
     let mut found = Found {
         file: None,
         ranks: None,
+        ticks: None,
         journal: None,
     };
     let mut rest = words;
@@ -70,6 +74,10 @@ fn with_part<'a>(
     if word == "--journal" {
         let (name, rest) = after.split_first()?;
         return Some((with_journal(found, name)?, rest));
+    }
+    if word == "--ticks" {
+        let (value, rest) = after.split_first()?;
+        return Some((with_ticks(found, value)?, rest));
     }
     Some((with_file(found, word)?, after))
 }
@@ -100,6 +108,19 @@ fn with_ranks<'a>(found: Found<'a>, value: &str) -> Option<Found<'a>>
     })
 }
 
+/// What is said with a value of `--ticks`, which may stand once.
+fn with_ticks<'a>(found: Found<'a>, value: &str) -> Option<Found<'a>>
+    ensures { option_map said_by result ≡ with_ticks_lem (said_by found.entry) value.now }
+{
+    if found.ticks.is_some() {
+        return None;
+    }
+    Some(Found {
+        ticks: Some(ticks_in(value)?),
+        ..found
+    })
+}
+
 /// What is said with a value of `--journal`, which may stand once.
 fn with_journal<'a>(found: Found<'a>, name: &'a str) -> Option<Found<'a>>
     ensures { option_map said_by result ≡ with_journal_lem (said_by found.entry) name.now }
@@ -122,6 +143,17 @@ fn ranks_in(value: &str) -> Option<u16>
     }
     let ranks = value.parse().ok()?;
     (1..=256).contains(&ranks).then_some(ranks)
+}
+
+/// The number that a value of `--ticks` writes, if it may be one.
+fn ticks_in(value: &str) -> Option<u64>
+    ensures { result ≡ ticks_said value.now }
+{
+    if !is_number(value) {
+        return None;
+    }
+    let ticks = value.parse().ok()?;
+    (0..=16_000_000).contains(&ticks).then_some(ticks)
 }
 
 /// Whether a word is 1 to 20 decimal digits.

@@ -14,18 +14,40 @@ fn words_of(alloc: Global, line: &str) -> Result<Vec<String>, AllocError> {
 #[test]
 fn accepted_words(rt: HostRuntime) -> Result<(), Fail> {
     let table = [
-        ("run a.c", "a.c", 1, None),
-        ("run --ranks 2 a.c", "a.c", 2, None),
-        ("run a.c --journal j --ranks 0256", "a.c", 256, Some("j")),
-        ("run --journal run run", "run", 1, Some("run")),
-        ("run --ranks 00000000000000000001 a.c", "a.c", 1, None),
-        ("run --journal é ü", "ü", 1, Some("é")),
+        ("run a.c", "a.c", 1, 1_000_000, None),
+        ("run --ranks 2 a.c", "a.c", 2, 1_000_000, None),
+        (
+            "run a.c --journal j --ranks 0256",
+            "a.c",
+            256,
+            1_000_000,
+            Some("j"),
+        ),
+        ("run --journal run run", "run", 1, 1_000_000, Some("run")),
+        (
+            "run --ranks 00000000000000000001 a.c",
+            "a.c",
+            1,
+            1_000_000,
+            None,
+        ),
+        ("run --journal é ü", "ü", 1, 1_000_000, Some("é")),
+        ("run --ticks 0 a.c", "a.c", 1, 0, None),
+        ("run a.c --ticks 16000000", "a.c", 1, 16_000_000, None),
+        (
+            "run --ticks 00000000000000000007 --ranks 3 a.c",
+            "a.c",
+            3,
+            7,
+            None,
+        ),
     ];
-    for (line, file, ranks, journal) in table {
+    for (line, file, ranks, ticks, journal) in table {
         let words = words_of(rt.alloc(), line)?;
         let command = read_words(rt.alloc(), &words)?;
         assert_eq!(rt; command.file.as_str(), file, "{line}");
         assert_eq!(rt; command.ranks, ranks, "{line}");
+        assert_eq!(rt; command.ticks, ticks, "{line}");
         assert_eq!(rt; journal_name(&words), journal, "{line}");
     }
     Ok(())
@@ -59,6 +81,15 @@ fn refused_words(rt: HostRuntime) -> Result<(), Fail> {
         "run --ranks 1x a.c",
         "run --ranks +1 a.c",
         "run run a.c",
+        "run --ticks 16000001 a.c",
+        "run --ticks a.c",
+        "run a.c --ticks",
+        "run --ticks 1 --ticks 1 a.c",
+        "run --ticks=1 a.c",
+        "run --ticks -1 a.c",
+        "run --ticks 000000000000000000001 a.c",
+        "run --ticks 18446744073709551616 a.c",
+        "run --tick 1 a.c",
         "a.c run",
     ];
     for line in table {

@@ -18,6 +18,7 @@ returns-clause-accepted c =
       asks = asks_for _ _ (asked_in run) c.deref.ensures.value read;
       file = c.in_ok-from_str.ensures.ok;
       ranks = refl;
+      ticks = refl;
     }
 
 pub returns-in_err-from_str-clause-memory : goal.returns-in_err-from_str-clause-memory

@@ -8,7 +8,7 @@ returns-in_err-ranks c =
     let word = c.args.value.now in
     let number = sym c.if-not-is_number.ensures in
     c.from_residual.ensures
-    ∙ ranks_said-large word c.parse.result (parsed word c.parse.result number c.parse.ensures.value.0) c.in_err-ranks.ensures.value
+    ∙ ranks_said-large word c.parse.result (parsed 16 word c.parse.result number c.parse.ensures.value.0) c.in_err-ranks.ensures.value
 
 pub returns : goal.returns
 returns c =
@@ -16,4 +16,4 @@ returns c =
     let number = sym c.if-not-is_number.ensures in
     let fits : c.contains.result ≡ (leb 1 c.in_ok-ranks.ranks && leb c.in_ok-ranks.ranks 256) = grind (arith, nat_tests) in
     c.then_some.ensures
-    ∙ ranks_said-read word c.parse.result c.in_ok-ranks.ranks c.contains.result number (parsed word c.parse.result number c.parse.ensures.value.0) c.in_ok-ranks.ensures.value fits
+    ∙ ranks_said-read word c.parse.result c.in_ok-ranks.ranks c.contains.result number (parsed 16 word c.parse.result number c.parse.ensures.value.0) c.in_ok-ranks.ensures.value fits
