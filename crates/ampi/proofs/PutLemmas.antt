@@ -30,9 +30,9 @@ on-err (Ok x) P p = tt
 on-err (Err e) P p = p
 
 -- the texts that are told are those of a whole run
-is-run : (s : Setting) (told : Told) (tells : TellsOfRun s told)
-    → IsRun s (tells.body ++ Commit ∷ []) (told.lines ++ told.report) (header_line s.ranks s.bound ++ told.journal) told.end
-is-run s told tells =
+is-run : (file : List ℕ) (s : Setting) (told : Told) (tells : TellsOfRun file s told)
+    → IsRun file s (tells.body ++ Commit ∷ []) (told.lines ++ told.report) (header_line s.ranks s.bound ++ told.journal) told.end
+is-run file s told tells =
     let whole = marked-whole s tells.body tells.drained in
     record {
       cut_and_marked = whole.marked;
@@ -45,59 +45,59 @@ is-run s told tells =
       status = tells.end;
     }
 
-pub put-all : (s : Setting) (told : Told) (o0 o1 o2 j0 j1 j2 : Option (List ℕ)) → TellsOfRun s told
+pub put-all : (file : List ℕ) (s : Setting) (told : Told) (o0 o1 o2 j0 j1 j2 : Option (List ℕ)) → TellsOfRun file s told
     → Appends j0 j1 (header_line s.ranks s.bound) → Appends j1 j2 told.journal → Appends o0 o1 told.lines → Appends o1 o2 told.report
-    → PutsRun s (puts o0 o2 j0 j2) told.end
-put-all s told o0 o1 o2 j0 j1 j2 tells header journal lines report = record {
+    → PutsRun file s (puts o0 o2 j0 j2) told.end
+put-all file s told o0 o1 o2 j0 j1 j2 tells header journal lines report = record {
   history = tells.body ++ Commit ∷ [];
   out = told.lines ++ told.report;
   journal = header_line s.ranks s.bound ++ told.journal;
-  run = is-run s told tells;
+  run = is-run file s told tells;
   got = record {
     out_got = Appends-append o0 o1 o2 told.lines told.report lines report;
     journal_got = Appends-append j0 j1 j2 (header_line s.ranks s.bound) told.journal header journal;
   };
 }
 
-part-of-run : (s : Setting) (told : Told) (p : Puts) → TellsOfRun s told
-    → GotPart p (told.lines ++ told.report) (header_line s.ranks s.bound ++ told.journal) → PutsRunPart s p
-part-of-run s told p tells got = inr (record {
+part-of-run : (file : List ℕ) (s : Setting) (told : Told) (p : Puts) → TellsOfRun file s told
+    → GotPart p (told.lines ++ told.report) (header_line s.ranks s.bound ++ told.journal) → PutsRunPart file s p
+part-of-run file s told p tells got = inr (record {
   history = tells.body ++ Commit ∷ [];
   out = told.lines ++ told.report;
   journal = header_line s.ranks s.bound ++ told.journal;
   end = told.end;
-  run = is-run s told tells;
+  run = is-run file s told tells;
   got = got;
 })
 
 -- broken off in the journal's text
-pub put-journal : (s : Setting) (told : Told) (o j0 j1 j2 : Option (List ℕ)) → TellsOfRun s told
-    → Appends j0 j1 (header_line s.ranks s.bound) → AppendsPart j1 j2 told.journal → PutsRunPart s (puts o o j0 j2)
-put-journal s told o j0 j1 j2 tells header journal = part-of-run s told (puts o o j0 j2) tells (record {
+pub put-journal : (file : List ℕ) (s : Setting) (told : Told) (o j0 j1 j2 : Option (List ℕ)) → TellsOfRun file s told
+    → Appends j0 j1 (header_line s.ranks s.bound) → AppendsPart j1 j2 told.journal → PutsRunPart file s (puts o o j0 j2)
+put-journal file s told o j0 j1 j2 tells header journal = part-of-run file s told (puts o o j0 j2) tells (record {
   out_got = AppendsPart-longer (told.lines ++ told.report) (AppendsPart-whole o o [] (appends-none o));
   journal_got = AppendsPart-append j0 (header_line s.ranks s.bound) header journal;
   journal_first = inl (appends-none o);
 })
 
 -- broken off in the lines
-pub put-lines : (s : Setting) (told : Told) (o0 o1 j0 j1 j2 : Option (List ℕ)) → TellsOfRun s told
+pub put-lines : (file : List ℕ) (s : Setting) (told : Told) (o0 o1 j0 j1 j2 : Option (List ℕ)) → TellsOfRun file s told
     → Appends j0 j1 (header_line s.ranks s.bound) → Appends j1 j2 told.journal → AppendsPart o0 o1 told.lines
-    → PutsRunPart s (puts o0 o1 j0 j2)
-put-lines s told o0 o1 j0 j1 j2 tells header journal lines =
+    → PutsRunPart file s (puts o0 o1 j0 j2)
+put-lines file s told o0 o1 j0 j1 j2 tells header journal lines =
     let whole = Appends-append j0 j1 j2 (header_line s.ranks s.bound) told.journal header journal in
-    part-of-run s told (puts o0 o1 j0 j2) tells (record {
+    part-of-run file s told (puts o0 o1 j0 j2) tells (record {
       out_got = AppendsPart-longer told.report lines;
       journal_got = AppendsPart-whole j0 j2 (header_line s.ranks s.bound ++ told.journal) whole;
       journal_first = inr whole;
     })
 
 -- broken off in the report
-pub put-report : (s : Setting) (told : Told) (o0 o1 o2 j0 j1 j2 : Option (List ℕ)) → TellsOfRun s told
+pub put-report : (file : List ℕ) (s : Setting) (told : Told) (o0 o1 o2 j0 j1 j2 : Option (List ℕ)) → TellsOfRun file s told
     → Appends j0 j1 (header_line s.ranks s.bound) → Appends j1 j2 told.journal → Appends o0 o1 told.lines → AppendsPart o1 o2 told.report
-    → PutsRunPart s (puts o0 o2 j0 j2)
-put-report s told o0 o1 o2 j0 j1 j2 tells header journal lines report =
+    → PutsRunPart file s (puts o0 o2 j0 j2)
+put-report file s told o0 o1 o2 j0 j1 j2 tells header journal lines report =
     let whole = Appends-append j0 j1 j2 (header_line s.ranks s.bound) told.journal header journal in
-    part-of-run s told (puts o0 o2 j0 j2) tells (record {
+    part-of-run file s told (puts o0 o2 j0 j2) tells (record {
       out_got = AppendsPart-append o0 told.lines lines report;
       journal_got = AppendsPart-whole j0 j2 (header_line s.ranks s.bound ++ told.journal) whole;
       journal_first = inr whole;

@@ -1,11 +1,14 @@
 -- What each answer of the program means, and when it comes.
-use Rattle.std.specs.Prelude.{ℕ, ◌≡◌, ◌+◌, ◌≤◌, List, [], ◌++◌, length, codes, ◌⊎◌}
+use Rattle.std.specs.Prelude.{ℕ, ◌≡◌, ◌+◌, ◌≤◌, ◌==◌, if◌then◌else◌, List, [], ◌++◌, length, codes, ◌⊎◌}
+use Rattle.std.specs.Fmt.{decimal}
 use Rattle.am_io.specs.Contents.{Held, Loads}
 use Rattle.c_model.specs.declared.tree.Program.{Program}
 use Rattle.run_words.specs.Words.{Asked, AskForRun}
-use Rattle.thin_form.specs.Source.{IsSource}
+use Rattle.c_model.specs.Need.{IsSimple}
+use Rattle.thin_compile.specs.Source.{IsSource, IsNotBuilt, IsTooComplexSource}
 use Rattle.w_model.specs.declared.entries.Entry.{Entry}
-use Rattle.w_model.specs.declared.report.End.TheVariants.{Done as AllDone}
+use Rattle.w_model.specs.declared.report.End.{End}
+use Rattle.w_model.specs.declared.report.End.TheVariants as end
 use Rattle.w_model.specs.World.{Setting, world_of, IsLegal, IsStuck}
 use Rattle.w_model.specs.Cut.{released_lines}
 use Rattle.w_model.specs.Texts.{journal_text, report_text, end_at}
@@ -13,15 +16,12 @@ use Rattle.w_model.specs.Whole.{IsMarkedDrain}
 use Rattle.thin_run.specs.Group.{setting}
 use Rattle.thin_run.specs.Told.{on_first}
 use Rattle.ampi.specs.declared.status.Status.{Status}
-use Rattle.ampi.specs.declared.status.Status.TheVariants.{Done, Usage, ReadFault, TooLong, Source, WriteFault, NoMemory}
+use Rattle.ampi.specs.declared.status.Status.TheVariants.{Done, Usage, ReadFault, TooLong, Source, Deadlock, OutOfTicks, Trapped, WriteFault, NoMemory}
 use Rattle.ampi.specs.Runs.{Puts, GotWhole, GotPart, PutsRunPart}
 
--- The longest source, in bytes, and the bound on a rank's ticks.
+-- The longest source, in bytes.
 abbrev pub source_limit : ℕ
 source_limit = 1048576
-
-abbrev pub tick_bound : ℕ
-tick_bound = 1000000
 
 -- The texts of the refusals.
 abbrev pub usage_text : List ℕ
@@ -34,8 +34,13 @@ cannot_read_text name = codes "ampi: cannot read " ++ name ++ codes "\n"
 abbrev pub too_long_text : List ℕ → List ℕ
 too_long_text name = codes "ampi: " ++ name ++ codes " is too long\n"
 
-abbrev pub not_built_text : List ℕ → List ℕ
-not_built_text name = codes "ampi: " ++ name ++ codes ":1: source form not built\n"
+-- why a source is refused, by the cause's number
+abbrev pub cause_text : ℕ → List ℕ
+cause_text cause = if cause == 95 then codes "more than 32 pending values" else codes "source form not built"
+
+abbrev pub source_text : ℕ → ℕ → List ℕ → List ℕ
+source_text line cause name =
+    codes "ampi: " ++ name ++ codes ":" ++ decimal line ++ codes ": " ++ cause_text cause ++ codes "\n"
 
 -- The words ask for nothing that is built.
 abbrev pub IsUsage : List (List ℕ) → Type 0
@@ -52,24 +57,23 @@ pub record IsTooLong (held : Held) (name : List ℕ) : Type 0 where
   pub loads : Loads held name source_limit text
   pub past : length text ≡ source_limit + 1
 
-abbrev pub IsNotBuilt : List ℕ → Type 0
-IsNotBuilt text = (program : Program) → IsSource text program → ⊥
-
--- The words ask for a run of a file that is loaded within the limit and is a source of the program.
+-- The words ask for a run of a file that is loaded within the limit and is a source of the program, in which no more
+-- values are pending anywhere than may be.
 pub record IsAccepted (words : List (List ℕ)) (held : Held) (asked : Asked) (program : Program) : Type 0 where
   pub asks : AskForRun words asked
   pub text : List ℕ
   pub loaded : IsLoaded held asked.file text
   pub source : IsSource text program
+  pub simple : IsSimple program
 
 -- the run that accepted words and their program stand for
 abbrev pub setting_of : Asked → Program → Setting
-setting_of asked program = setting program asked.ranks tick_bound
+setting_of asked program = setting program asked.ranks asked.ticks
 
 -- The headline. The journal is a run which MPI's matching rules allow to ranks that never move, each with a private
 -- memory, over perfect queues; the lines and statuses that are written are that run's, each line once; and it ends
--- only where that run is stuck.
-pub record Headline (words : List (List ℕ)) (held : Held) (out journal : List ℕ) : Type 0 where
+-- only where that run is stuck or at the bound on ticks, in the way that is told.
+pub record Headline (words : List (List ℕ)) (held : Held) (end : End) (out journal : List ℕ) : Type 0 where
   pub asked : Asked
   pub program : Program
   pub history : List Entry
@@ -78,8 +82,8 @@ pub record Headline (words : List (List ℕ)) (held : Held) (out journal : List 
   pub allowed : IsLegal (setting_of asked program) history
   pub ended : IsStuck (setting_of asked program) history
   pub texts : (journal ≡ journal_text (setting_of asked program) history)
-      × (out ≡ released_lines (setting_of asked program) history ++ report_text (setting_of asked program) on_first history)
-  pub status : end_at (setting_of asked program) (world_of history) ≡ AllDone
+      × (out ≡ released_lines (setting_of asked program) history ++ report_text asked.file (setting_of asked program) on_first history)
+  pub status : end_at (setting_of asked program) (world_of history) ≡ end
 
 -- The words are refused.
 pub record ToldUsage (words : List (List ℕ)) (out journal : List ℕ) : Type 0 where
@@ -95,22 +99,28 @@ pub record ToldOfFile (words : List (List ℕ)) (file : ℕ) (reason : List ℕ 
   pub because : reason asked.file
   pub texts : (out ≡ text asked.file) × (journal ≡ [])
 
--- The source is none of the form.
+-- The source is refused, at this line and for this cause: it is none of the form, or more values are pending in it than
+-- may be.
+abbrev pub IsCause : List ℕ → ℕ → ℕ → Type 0
+IsCause text line cause =
+    ((line ≡ 1) × (cause ≡ 99) × IsNotBuilt text) ⊎ ((cause ≡ 95) × IsTooComplexSource text line)
+
 pub record IsRefusedSource (held : Held) (line cause : ℕ) (name : List ℕ) : Type 0 where
   pub text : List ℕ
   pub loaded : IsLoaded held name text
-  pub not_built : IsNotBuilt text
-  pub line_is : line ≡ 1
-  pub cause_is : cause ≡ 99
+  pub because : IsCause text line cause
 
 -- What an answer tells of these words and files, with these texts. The last two break off another answer.
 abbrev pub Explains : List (List ℕ) → Held → Status → List ℕ → List ℕ → Type 0
-Explains words held Done out journal = Headline words held out journal
+Explains words held Done out journal = Headline words held end.Done out journal
+Explains words held Deadlock out journal = Headline words held end.Deadlock out journal
+Explains words held OutOfTicks out journal = Headline words held end.OutOfTicks out journal
+Explains words held (Trapped rank) out journal = Headline words held (end.Trapped (record { 0 = rank })) out journal
 Explains words held Usage out journal = ToldUsage words out journal
 Explains words held (ReadFault file) out journal = ToldOfFile words file (λ name. Unit {0}) cannot_read_text out journal
 Explains words held (TooLong file) out journal = ToldOfFile words file (IsTooLong held) too_long_text out journal
 Explains words held (Source file line cause) out journal =
-    ToldOfFile words file (IsRefusedSource held line cause) not_built_text out journal
+    ToldOfFile words file (IsRefusedSource held line cause) (source_text line cause) out journal
 Explains words held WriteFault out journal = ⊥
 Explains words held NoMemory out journal = ⊥
 
@@ -134,7 +144,7 @@ pub record IsRunPartTold (words : List (List ℕ)) (held : Held) (p : Puts) : Ty
   pub asked : Asked
   pub program : Program
   pub accepted : IsAccepted words held asked program
-  pub got : PutsRunPart (setting_of asked program) p
+  pub got : PutsRunPart asked.file (setting_of asked program) p
 
 abbrev pub IsBrokenOff : List (List ℕ) → Held → Puts → Type 0
 IsBrokenOff words held p = IsPartTold words held p ⊎ IsRunPartTold words held p
@@ -142,9 +152,19 @@ IsBrokenOff words held p = IsPartTold words held p ⊎ IsRunPartTold words held 
 -- What was put at each answer.
 abbrev pub Answers : List (List ℕ) → Held → Puts → Status → Type 0
 Answers words held p Done = IsTold words held p Done
+Answers words held p Deadlock = IsTold words held p Deadlock
+Answers words held p OutOfTicks = IsTold words held p OutOfTicks
+Answers words held p (Trapped rank) = IsTold words held p (Trapped rank)
 Answers words held p Usage = IsTold words held p Usage
 Answers words held p (ReadFault file) = IsTold words held p (ReadFault file)
 Answers words held p (TooLong file) = IsTold words held p (TooLong file)
 Answers words held p (Source file line cause) = IsTold words held p (Source file line cause)
 Answers words held p WriteFault = IsBrokenOff words held p
 Answers words held p NoMemory = GotWhole p [] [] ⊎ IsBrokenOff words held p
+
+-- the answer that tells of this end of a run
+abbrev pub status_of : End → Status
+status_of end.Done = Done
+status_of end.Deadlock = Deadlock
+status_of end.OutOfTicks = OutOfTicks
+status_of (end.Trapped rank) = Trapped rank.0

@@ -1,4 +1,5 @@
 pub mod Status
+pub mod Refusal
 pub mod Runs
 pub mod Answers
 pub mod Yields

@@ -32,20 +32,20 @@ pub record GotPart (p : Puts) (out journal : List ℕ) : Type 0 where
   pub journal_got : AppendsPart p.journal_old p.journal_new journal
   pub journal_first : Appends p.out_old p.out_new [] ⊎ Appends p.journal_old p.journal_new journal
 
--- A whole run of the setting: its history, the texts that tell of it, and how it ended.
-pub record IsRun (s : Setting) (history : List Entry) (out journal : List ℕ) (end : End) : Type 0 where
+-- A whole run of the program in a file, in the setting: its history, the texts that tell of it, and how it ended.
+pub record IsRun (file : List ℕ) (s : Setting) (history : List Entry) (out journal : List ℕ) (end : End) : Type 0 where
   pub cut_and_marked : IsMarkedDrain s history
   pub allowed : IsLegal s history
   pub ended : IsStuck s history
-  pub texts : (journal ≡ journal_text s history) × (out ≡ released_lines s history ++ report_text s on_first history)
+  pub texts : (journal ≡ journal_text s history) × (out ≡ released_lines s history ++ report_text file s on_first history)
   pub status : end ≡ end_at s (world_of history)
 
 -- The output and the journal got the texts of a whole run with this end.
-pub record PutsRun (s : Setting) (p : Puts) (end : End) : Type 0 where
+pub record PutsRun (file : List ℕ) (s : Setting) (p : Puts) (end : End) : Type 0 where
   pub history : List Entry
   pub out : List ℕ
   pub journal : List ℕ
-  pub run : IsRun s history out journal end
+  pub run : IsRun file s history out journal end
   pub got : GotWhole p out journal
 
 -- The journal got a first part of its first line, and the output nothing.
@@ -54,14 +54,14 @@ pub record GotHeader (s : Setting) (p : Puts) : Type 0 where
   pub journal_got : AppendsPart p.journal_old p.journal_new (header_line s.ranks s.bound)
 
 -- They got first parts of the texts of a whole run.
-pub record GotRunPart (s : Setting) (p : Puts) : Type 0 where
+pub record GotRunPart (file : List ℕ) (s : Setting) (p : Puts) : Type 0 where
   pub history : List Entry
   pub out : List ℕ
   pub journal : List ℕ
   pub end : End
-  pub run : IsRun s history out journal end
+  pub run : IsRun file s history out journal end
   pub got : GotPart p out journal
 
 -- What a run that is broken off has put.
-abbrev pub PutsRunPart : Setting → Puts → Type 0
-PutsRunPart s p = GotHeader s p ⊎ GotRunPart s p
+abbrev pub PutsRunPart : List ℕ → Setting → Puts → Type 0
+PutsRunPart file s p = GotHeader s p ⊎ GotRunPart file s p

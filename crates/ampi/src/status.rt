@@ -14,6 +14,12 @@ pub enum Status {
     TooLong { file: u32 },
     /// The source is refused, at this line and for this cause.
     Source { file: u32, line: u32, cause: u16 },
+    /// No rank was trapped or stopped at the bound on its ticks, and one waits for ever.
+    Deadlock,
+    /// No rank was trapped, and one that hasn't ended is at the bound on its ticks.
+    OutOfTicks,
+    /// A rank was trapped, and this is the least.
+    Trapped { rank: u32 },
     /// The output or the journal could not be written.
     WriteFault,
     /// Memory ran out.
@@ -31,6 +37,9 @@ impl Status {
             Status::ReadFault { .. } => 2,
             Status::TooLong { .. } => 3,
             Status::Source { .. } => 4,
+            Status::Deadlock => 6,
+            Status::OutOfTicks => 7,
+            Status::Trapped { .. } => 8,
             Status::WriteFault => 10,
             Status::NoMemory => 11,
         }

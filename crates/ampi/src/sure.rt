@@ -2,7 +2,7 @@ ghost use Rattle.std.specs.Prelude.{Some};
 ghost use Rattle.run_words.specs.Asks.{bytes_of_words};
 ghost use Rattle.ampi.specs.Answers.{Answers, IsAccepted};
 ghost use Rattle.ampi.specs.Runs.{puts};
-ghost use Rattle.ampi.specs.Yields.{IsDoneOrNoMemory};
+ghost use Rattle.ampi.specs.Yields.{EndsRunOrNoMemory};
 
 use crate::{Status, ampi};
 use am_io::{SureFiles, SureSink};
@@ -20,7 +20,7 @@ pub fn ampi_surely(
     ensures answers { Answers (bytes_of_words words.now) (Some files.old)
         (puts (Some out.old.bytes) (Some out.new.bytes) (Some journal.old.bytes) (Some journal.new.bytes)) result }
     ensures complete { (asked : _) (program : _)
-        → IsAccepted (bytes_of_words words.now) (Some files.old) asked program → IsDoneOrNoMemory result }
+        → IsAccepted (bytes_of_words words.now) (Some files.old) asked program → EndsRunOrNoMemory result }
 {
     ampi(alloc, words, files, out, journal)
 }

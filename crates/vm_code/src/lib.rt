@@ -2,7 +2,9 @@
 #![tactic(auto)]
 
 mod code;
+mod compiled;
 mod instr;
 
 pub use code::Code;
+pub use compiled::Compiled;
 pub use instr::Instr;

@@ -6,7 +6,7 @@ returns-in_err-say-2-clause-part g c =
     let header = rw (c.as_slice.ensures, c.in_ok-header.ensures) at c.in_ok-say.ensures.ok in
     let part = said-part c.say-2.result _ _ _ _ c.in_err-say-2.was c.say-2.ensures.failed c.say-2.ensures.memory in
     let journal = rw c.as_slice-2.ensures at part in
-    on-err _ _ (put-journal _ c.in_ok-told.told _ _ _ _ c.in_ok-told.ensures header journal)
+    on-err _ _ (put-journal _ _ c.in_ok-told.told _ _ _ _ c.in_ok-told.ensures header journal)
 
 pub returns-in_err-say-3-clause-part : goal.returns-in_err-say-3-clause-part
 returns-in_err-say-3-clause-part g c =
@@ -14,7 +14,7 @@ returns-in_err-say-3-clause-part g c =
     let journal = rw c.as_slice-2.ensures at c.in_ok-say-2.ensures.ok in
     let part = said-part c.say-3.result _ _ _ _ c.in_err-say-3.was c.say-3.ensures.failed c.say-3.ensures.memory in
     let lines = rw c.as_slice-3.ensures at part in
-    on-err _ _ (put-lines _ c.in_ok-told.told _ _ _ _ _ c.in_ok-told.ensures header journal lines)
+    on-err _ _ (put-lines _ _ c.in_ok-told.told _ _ _ _ _ c.in_ok-told.ensures header journal lines)
 
 pub returns-in_err-say-4-clause-part : goal.returns-in_err-say-4-clause-part
 returns-in_err-say-4-clause-part g c =
@@ -23,7 +23,7 @@ returns-in_err-say-4-clause-part g c =
     let lines = rw c.as_slice-3.ensures at c.in_ok-say-3.ensures.ok in
     let part = said-part c.say-4.result _ _ _ _ c.in_err-say-4.was c.say-4.ensures.failed c.say-4.ensures.memory in
     let report = rw c.as_slice-4.ensures at part in
-    on-err _ _ (put-report _ c.in_ok-told.told _ _ _ _ _ _ c.in_ok-told.ensures header journal lines report)
+    on-err _ _ (put-report _ _ c.in_ok-told.told _ _ _ _ _ _ c.in_ok-told.ensures header journal lines report)
 
 pub returns-clause-run : goal.returns-clause-run
 returns-clause-run g c =
@@ -31,4 +31,4 @@ returns-clause-run g c =
     let journal = rw c.as_slice-2.ensures at c.in_ok-say-2.ensures.ok in
     let lines = rw c.as_slice-3.ensures at c.in_ok-say-3.ensures.ok in
     let report = rw c.as_slice-4.ensures at c.in_ok-say-4.ensures.ok in
-    put-all _ c.in_ok-told.told _ _ _ _ _ _ c.in_ok-told.ensures header journal lines report
+    put-all _ _ c.in_ok-told.told _ _ _ _ _ _ c.in_ok-told.ensures header journal lines report

@@ -1,9 +1,12 @@
 use Rattle.std.proofs.Common.{ap, ◌∙◌, Err}
-use Rattle.ampi.proofs.AnswerLemmas.{few-asked, told-usage, usage-comes, comes, nothing-comes}
+use Rattle.ampi.proofs.AnswerLemmas.{few-asked, bounded-asked, told-usage, usage-comes, comes, nothing-comes}
 use Rattle.ampi.proofs.top.ampi.Goals as goal
 
-pub run_file-requires : goal.run_file-requires
-run_file-requires g c = few-asked _ _ c.in-Ok.ensures.accepted
+pub run_file-requires-clause-few : goal.run_file-requires-clause-few
+run_file-requires-clause-few g c = few-asked _ _ c.in-Ok.ensures.accepted
+
+pub run_file-requires-clause-bounded : goal.run_file-requires-clause-bounded
+run_file-requires-clause-bounded g c = bounded-asked _ _ c.in-Ok.ensures.accepted
 
 pub returns-in-Ok-clause-usage : goal.returns-in-Ok-clause-usage
 returns-in-Ok-clause-usage g c = λ usage.

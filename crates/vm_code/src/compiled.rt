@@ -1,5 +1,5 @@
+use crate::Code;
 use c_model::Program;
-use vm_code::Code;
 
 /// A program and its code.
 #[derive(Debug, Drop)]
