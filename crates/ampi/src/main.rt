@@ -5,6 +5,8 @@ mod refusal;
 mod run;
 mod status;
 mod sure;
+#[cfg(test)]
+mod tests;
 mod top;
 
 use am_io::{FileSink, FsFiles, NullSink, OutSink};
