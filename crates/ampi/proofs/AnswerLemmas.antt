@@ -11,6 +11,7 @@ use Rattle.run_words.specs.declared.command.Command.{Command}
 use Rattle.run_words.proofs.ReadingLemmas.{one_run}
 use Rattle.run_words.proofs.RankLemmas.{few-ranks, bounded-ticks}
 use Rattle.thin_compile.specs.Source.{IsSource, IsNotBuilt, IsTooComplexSource, IsCompiled}
+use Rattle.thin_compile.proofs.SourceLemmas.{one-source}
 use Rattle.thin_run.specs.Group.{setting}
 use Rattle.vm_code.specs.declared.compiled.Compiled.{Compiled}
 use Rattle.w_model.specs.declared.report.End.{End}
@@ -20,9 +21,6 @@ use Rattle.ampi.specs.declared.status.Status.TheVariants.{Done, Usage, ReadFault
 use Rattle.ampi.specs.Runs.{Puts, GotWhole, PutsRun, PutsRunPart}
 use Rattle.ampi.specs.Answers.{Answers, Headline, ToldUsage, ToldOfFile, IsUsage, IsLoaded, IsTooLong, IsCause, IsRefusedSource, IsAccepted, IsTold, IsRunPartTold, setting_of, status_of, source_limit, source_text, usage_text, too_long_text, cannot_read_text}
 use Rattle.ampi.specs.Yields.{Yields, EndsRun, EndsRunOrNoMemory, Comes}
-
-one-source : (text : List ℕ) (p q : Program) → IsSource text p → IsSource text q → p ≡ q
-one-source text p q a b = ?
 
 pub few-asked : (words : List (List ℕ)) (command : Command) → IsAskedBy words command → command.ranks ≤ 256
 few-asked words command asked = omega (arith, asked.ranks, few-ranks words asked.asked asked.asks)

@@ -1,16 +1,22 @@
 //! Makes the code of a program for the stack machine.
 #![tactic(auto)]
 
-ghost use Rattle.std.specs.Prelude.{◌≡◌, ℕ, IfOk, Err};
+ghost use Rattle.std.specs.Prelude.{◌≡◌, ℕ, IfOk, Err, OnOk};
 ghost use Rattle.c_model.specs.Need.{IsSimple, IsTooComplex};
 ghost use Rattle.vm_code.specs.Means.{Means};
+ghost use Rattle.codegen.specs.Layout.{main_part};
+ghost use Rattle.codegen.specs.Making.{Adds};
 
+mod check;
+mod draft;
+mod emit;
 mod error;
 
 use c_model::Program;
+use draft::Draft;
 pub use error::GenError;
-use std::alloc::Global;
-use vm_code::Code;
+use std::alloc::{AllocError, Global};
+use vm_code::{Code, Instr};
 
 /// Makes code that means the program.
 pub fn generate(alloc: Global, program: &Program) -> Result<Code, GenError>
@@ -18,5 +24,20 @@ pub fn generate(alloc: Global, program: &Program) -> Result<Code, GenError>
     ensures simple { IfOk result (λ code. IsSimple program.now) }
     ensures too_complex { (line : ℕ) → result ≡ Err (GenError.TooComplex line) → IsTooComplex program.now line }
 {
-    Err(GenError::Memory)
+    check::check_all(program.body.as_slice())?;
+    let mut draft = Draft::new(alloc);
+    emit_main(alloc, &mut draft, program)?;
+    let Draft { instrs, literals } = draft;
+    Ok(Code { instrs, literals })
+}
+
+/// The whole code: the entry, the statements, and the status 0 past them.
+fn emit_main(alloc: Global, draft: &mut Draft, program: &Program) -> Result<(), AllocError>
+    ensures { OnOk result (Adds draft.old draft.new (main_part program.now.locals program.now.body)) }
+{
+    draft.put(Instr::Tick)?;
+    draft.put(Instr::Enter(program.locals))?;
+    emit::emit_all(alloc, draft, program.body.as_slice())?;
+    draft.put(Instr::Push(0))?;
+    draft.put(Instr::Return)
 }

@@ -6,8 +6,11 @@ ghost use Rattle.thin_compile.specs.Source.{IsCompiled, IsNotBuilt, IsTooComplex
 
 mod error;
 
+use codegen::{GenError, generate};
 pub use error::CompileError;
 use std::alloc::Global;
+use thin_form::{ParseError, parse};
+use thin_tokens::{TokenError, read_tokens};
 use vm_code::Compiled;
 
 /// Compiles a text of fewer than 2 ^ 32 bytes.
@@ -17,5 +20,19 @@ pub fn compile(alloc: Global, text: &[u8]) -> Result<Compiled, CompileError>
     ensures not_built { result ≡ Err CompileError.NotBuilt → IsNotBuilt text.now }
     ensures too_complex { (line : ℕ) → result ≡ Err (CompileError.TooComplex line) → IsTooComplexSource text.now line }
 {
-    Err(CompileError::Memory)
+    let tokens = match read_tokens(alloc, text) {
+        Ok(tokens) => tokens,
+        Err(TokenError::NotBuilt) => return Err(CompileError::NotBuilt),
+        Err(TokenError::Memory) => return Err(CompileError::Memory),
+    };
+    let program = match parse(alloc, tokens.as_slice()) {
+        Ok(program) => program,
+        Err(ParseError::NotBuilt) => return Err(CompileError::NotBuilt),
+        Err(ParseError::Memory) => return Err(CompileError::Memory),
+    };
+    match generate(alloc, &program) {
+        Ok(code) => Ok(Compiled { program, code }),
+        Err(GenError::TooComplex { line }) => Err(CompileError::TooComplex { line }),
+        Err(GenError::Memory) => Err(CompileError::Memory),
+    }
 }

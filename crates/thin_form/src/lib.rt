@@ -6,14 +6,17 @@ ghost use Rattle.c_model.specs.declared.tree.Program.{Program};
 ghost use Rattle.thin_tokens.specs.declared.token.Token.{Token};
 ghost use Rattle.thin_form.specs.Grammar.{Parses};
 
+mod cursor;
+mod declarations;
 mod error;
-pub mod operators;
-pub mod scope;
+mod expressions;
+mod operators;
+mod program;
+mod scope;
+mod statements;
 
 use c_model::Program;
 pub use error::ParseError;
-pub use operators::{Operator, Place};
-pub use scope::{Declared, Scope};
 use std::alloc::Global;
 use thin_tokens::Token;
 
@@ -26,5 +29,13 @@ pub fn parse(alloc: Global, tokens: &[Token]) -> Result<Program, ParseError>
     ensures parses { IfOk result (λ program. Parses tokens.now program) }
     ensures refused { IsErrOf result ParseError.NotBuilt → (program : Program) → Parses tokens.now program → ⊥ }
 {
-    Err(ParseError::Memory)
+    program::program(alloc, tokens)
 }
+
+/// A law: tokens are of one program at most.
+pub fn one_program()
+    ensures { (ts : List Token) (p q : Program) → Parses ts p → Parses ts q → p ≡ q }
+{}
+
+#[cfg(test)]
+mod tests;

@@ -21,3 +21,7 @@ pub fn read_tokens(alloc: Global, text: &[u8]) -> Result<Vec<Token>, TokenError>
     Err(TokenError::Memory)
 }
 
+/// A law: a text is one list of tokens at most.
+pub fn one_list_of_tokens()
+    ensures { (text : List ℕ) (a b : List AToken) → AreTokens text a → AreTokens text b → a ≡ b }
+{}

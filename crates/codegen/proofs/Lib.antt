@@ -1,0 +1,10 @@
+pub mod Adding
+pub mod Emitting
+pub mod Parts
+pub mod Acting
+pub mod Bounding
+pub mod Needing
+pub mod Generating
+pub mod Running
+pub mod Spanning
+pub mod Valuing
