@@ -1,22 +1,20 @@
 -- The code of a statement does what the statement means.
-use Rattle.std.proofs.Common.{◌≡◌, ℕ, zero, suc, ℤ, pos, ◌+◌, ◌≤◌, ◌<◌, Bool, true, false, not, List, [], ◌∷◌, ◌++◌, length, map, replicate, Some, refl, sym, ap, ◌∙◌, subst, arith}
-use Rattle.std.specs.Prelude.{slice_get, if◌then◌else◌}
+use Rattle.std.proofs.Common.{◌≡◌, ℕ, zero, suc, ℤ, pos, ◌+◌, ◌<◌, List, [], ◌∷◌, map, replicate, sym, subst, arith}
+use Rattle.std.specs.Prelude.{if◌then◌else◌}
 use Rattle.c_model.specs.declared.tree.FullExpr.{FullExpr}
 use Rattle.c_model.specs.declared.tree.Stmt.{Stmt, map-Stmt}
 use Rattle.c_model.specs.declared.tree.Stmt.TheOpen.{Stmt-F}
 use Rattle.c_model.specs.declared.tree.Stmt.TheViews.{roll-Stmt}
-use Rattle.c_model.specs.declared.tree.Stmt.TheFolds.{fold-Stmt, fold-roll-Stmt, ind-Stmt}
+use Rattle.c_model.specs.declared.tree.Stmt.TheFolds.{fold-roll-Stmt, ind-Stmt}
 use Rattle.c_model.specs.declared.tree.Program.{Program}
-use Rattle.c_model.specs.Operators.{is_true}
-use Rattle.c_model.specs.Run.{Answer, Done, Rest, value, tick, print, change, store, choose, turns, loop, in_order, leave, Meaning, meaning, meaning_step, statements, run_of, nothing_done}
+use Rattle.c_model.specs.Run.{Rest, value, tick, print, change, store, choose, turns, loop, in_order, leave, Meaning, meaning, meaning_step, statements, run_of, nothing_done}
 use Rattle.vm_code.specs.declared.code.Code.{Code}
 use Rattle.vm_code.specs.declared.instr.Instr.TheVariants.{Tick, Enter, Push, Pop, Local, Store, Jump, JumpIfZero, Return}
-use Rattle.vm_code.specs.Machine.{start}
-use Rattle.vm_code.specs.Means.{Stops, Means}
-use Rattle.codegen.specs.Layout.{Part, one, ◌then◌, over, again, expr_part, all_parts, ticked, print_part, express_part, declare_part, return_part, stmt_step, stmt_part, main_part}
+use Rattle.vm_code.specs.Means.{Means}
+use Rattle.codegen.specs.Layout.{Part, one, ◌then◌, over, again, all_parts, ticked, print_part, express_part, declare_part, return_part, stmt_step, stmt_part, main_part}
 use Rattle.codegen.proofs.Running.{Does, fewer, does_tick, does_enter, does_push, does_pop, does_local, does_store, does_jump, does_if_zero, does_text, does_return}
 use Rattle.codegen.proofs.Spanning.{stored, Spans, spans_all, spans_none, spans_one, spans_then, spans_over, spans_again, spans_text}
-use Rattle.codegen.proofs.Valuing.{Values, from_place, has_value}
+use Rattle.codegen.proofs.Valuing.{from_place, has_value}
 
 -- wherever the part stands, the machine goes over it as the statement does
 pub record Acts (code : Code) (part : Part) (m : Meaning) : Type 0 where

@@ -1,25 +1,13 @@
 -- What was added step by step is one part.
-use Rattle.std.proofs.Common.{◌≡◌, ℕ, ℤ, pos, ◌+◌, ◌<◌, Bool, true, false, List, [], ◌∷◌, ◌++◌, length, map, take, refl, sym, ap, ◌∙◌, subst, arith, append_assoc, length-append, Result, OnOk}
+use Rattle.std.proofs.Common.{◌≡◌, ℕ, ◌+◌, Bool, List, [], ◌∷◌, ◌++◌, length, refl, sym, ap, ◌∙◌, arith, append_assoc, length-append}
 use Rattle.std.specs.Prelude.{slice_set}
 use Rattle.std.proofs.lemmas.List.{append-nil}
-use Rattle.std.proofs.lemmas.Result.{on_ok_weaker}
 use Rattle.std.proofs.Math.Seq.{set-append_seam}
-use Rattle.c_model.specs.declared.tree.Expr.{Expr}
-use Rattle.c_model.specs.declared.tree.Expr.TheOpen.{Expr-F}
-use Rattle.c_model.specs.declared.tree.Expr.TheFolds.{fold-Expr, fold-roll-Expr, ind-Expr}
-use Rattle.c_model.specs.declared.tree.Expr.TheVariants as expr
-use Rattle.c_model.specs.declared.tree.UnaryOp.{UnaryOp}
-use Rattle.c_model.specs.declared.tree.BinaryOp.{BinaryOp}
-use Rattle.c_model.specs.declared.tree.FullExpr.{FullExpr}
-use Rattle.c_model.specs.declared.tree.Stmt.{Stmt}
-use Rattle.c_model.specs.declared.tree.Stmt.TheOpen.{Stmt-F}
-use Rattle.c_model.specs.declared.tree.Stmt.TheFolds.{fold-Stmt, fold-roll-Stmt, ind-Stmt}
-use Rattle.c_model.specs.declared.tree.Stmt.TheVariants as stmt
 use Rattle.vm_code.specs.declared.instr.Instr.{Instr}
-use Rattle.vm_code.specs.declared.instr.Instr.TheVariants.{Tick, Enter, Push, Pop, Local, Load, Store, Unary, Binary, Jump, JumpIfZero, JumpIfNot, Text, Return}
+use Rattle.vm_code.specs.declared.instr.Instr.TheVariants.{Jump, Text}
 use Rattle.codegen.specs.declared.draft.Draft.{Draft}
-use Rattle.codegen.specs.Layout.{Part, no_part, one, text_part, ◌then◌, over, again, jump_when, truths, decided, expr_step, expr_part, all_parts, ticked, print_part, express_part, declare_part, return_part, stmt_step, stmt_part, main_part}
-use Rattle.codegen.specs.Making.{Adds, IsHole, IsFilled, IsDecided, AddsHole}
+use Rattle.codegen.specs.Layout.{Part, no_part, one, text_part, ◌then◌, over, again, jump_when, truths, decided, all_parts}
+use Rattle.codegen.specs.Making.{Adds, IsHole, IsFilled, IsDecided}
 
 pub adds_then : (d0 d1 d2 : Draft) (a b : Part) → Adds d0 d1 a → Adds d1 d2 b → Adds d0 d2 (a then b)
 unfolding ◌then◌

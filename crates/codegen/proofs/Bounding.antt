@@ -1,5 +1,5 @@
 -- Each jump of the code that doesn't lead forward leads to a tick point.
-use Rattle.std.proofs.Common.{◌≡◌, ◌⊎◌, inl, inr, ℕ, zero, suc, ◌+◌, ◌≤◌, ◌<◌, Bool, true, false, not, pos, List, [], ◌∷◌, ◌++◌, length, map, Option, Some, None, refl, sym, ap, ◌∙◌, subst, ⊎_elim, arith}
+use Rattle.std.proofs.Common.{◌≡◌, ℕ, ◌+◌, ◌≤◌, ◌<◌, Bool, true, false, List, [], ◌∷◌, length, map, Some, None, refl, sym, ap, ◌∙◌, subst, ⊎_elim, arith}
 use Rattle.std.specs.Prelude.{slice_get}
 use Rattle.std.proofs.lemmas.Bool.{cases_lt}
 use Rattle.std.proofs.lemmas.Option.{slice_get_past}
@@ -13,11 +13,11 @@ use Rattle.c_model.specs.declared.tree.Stmt.TheOpen.{Stmt-F}
 use Rattle.c_model.specs.declared.tree.Stmt.TheViews.{roll-Stmt}
 use Rattle.c_model.specs.declared.tree.Stmt.TheFolds.{ind-Stmt}
 use Rattle.vm_code.specs.declared.instr.Instr.{Instr}
-use Rattle.vm_code.specs.declared.instr.Instr.TheVariants.{Tick, Enter, Push, Pop, Local, Load, Store, Unary, Binary, Jump, JumpIfZero, JumpIfNot, Text, Return}
+use Rattle.vm_code.specs.declared.instr.Instr.TheVariants.{Tick, Jump, JumpIfZero}
 use Rattle.vm_code.specs.Bounded.{target_of, LoopsTick}
 use Rattle.codegen.specs.declared.draft.Draft.{Draft}
 use Rattle.codegen.specs.Layout.{Part, no_part, one, text_part, ◌then◌, over, again, jump_when, truths, decided, expr_part, all_parts, ticked, print_part, express_part, declare_part, return_part, stmt_part, main_part}
-use Rattle.codegen.proofs.Spanning.{Spans, spans_grow, spans_none, spans_one, spans_then, spans_over, spans_again, spans_text, spans_truths, AtTruths}
+use Rattle.codegen.proofs.Spanning.{Spans, spans_grow, spans_none, spans_one, spans_then, spans_over, spans_again, spans_text, spans_truths}
 use Rattle.codegen.proofs.Valuing.{parts_roll}
 use Rattle.codegen.proofs.Acting as acting
 

@@ -1,8 +1,7 @@
 -- What the emitters add, from what their steps add.
-use Rattle.std.proofs.Common.{◌≡◌, ℕ, ℤ, pos, ◌+◌, ◌<◌, Bool, true, false, not, List, [], ◌∷◌, ◌++◌, length, map, refl, sym, ap, ◌∙◌, subst, arith, append_assoc, length-append, length-set, take, Some, Result, OnOk, to_z, of_z, w32, SFits}
+use Rattle.std.proofs.Common.{◌≡◌, ℕ, ℤ, pos, ◌+◌, ◌<◌, Bool, true, false, not, List, [], ◌∷◌, ◌++◌, length, map, sym, ap, ◌∙◌, subst, arith, append_assoc, length-set, take, to_z, of_z, w32, SFits}
 use Rattle.std.specs.Prelude.{slice_set, get_or}
 use Rattle.std.proofs.lemmas.Int.{to_z-of_z}
-use Rattle.std.proofs.lemmas.Result.{on_ok_weaker}
 use Rattle.std.proofs.lemmas.List.{append-nil, take_more, map-append}
 use Rattle.c_model.specs.Operators.{truth}
 use Rattle.c_model.specs.declared.tree.UnaryOp.{UnaryOp}
@@ -13,12 +12,12 @@ use Rattle.c_model.specs.declared.tree.FullExpr.{FullExpr}
 use Rattle.c_model.specs.declared.tree.Stmt.{Stmt}
 use Rattle.c_model.specs.declared.tree.Stmt.TheVariants as stmt
 use Rattle.vm_code.specs.declared.instr.Instr.{Instr}
-use Rattle.vm_code.specs.declared.instr.Instr.TheVariants.{Tick, Enter, Push, Pop, Local, Load, Store, Unary, Binary, Jump, JumpIfZero, JumpIfNot, Text, Return}
+use Rattle.vm_code.specs.declared.instr.Instr.TheVariants.{Tick, Enter, Push, Pop, Local, Load, Store, Unary, Binary, Jump, JumpIfZero, Return}
 use Rattle.codegen.specs.declared.draft.Draft.{Draft}
-use Rattle.codegen.specs.Layout.{Part, no_part, one, text_part, ◌then◌, over, again, jump_when, truths, decided, expr_part, all_parts, ticked, print_part, express_part, declare_part, return_part, stmt_part, main_part}
+use Rattle.codegen.specs.Layout.{Part, one, text_part, jump_when, truths, expr_part, all_parts, ticked, print_part, express_part, declare_part, return_part, stmt_part, main_part}
 use Rattle.codegen.specs.Making.{Adds, IsHole, IsFilled, IsDecided, AddsHole}
 use Rattle.codegen.proofs.Adding.{adds_then, adds_over, adds_again, adds_decided, adds_more}
-use Rattle.codegen.proofs.Parts.{number_part, local_part, unary_part, binary_part, and_part, or_part, assign_part, print_is, express_is, declare_is, if_is, if_else_is, while_is, return_is, empty_is, block_is}
+use Rattle.codegen.proofs.Parts.{number_part, local_part, unary_part, binary_part, and_part, or_part, assign_part, if_is, if_else_is, while_is, block_is}
 
 -- the end of `&&` and `||`, by its four instructions
 pub decided_from : (d0 m d1 d2 d3 d4 : Draft) (decisive : Bool) (hole at : ℕ) (j k : Instr) (x y : ℤ) → at ≡ length d0.instrs + 3

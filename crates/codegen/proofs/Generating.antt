@@ -1,14 +1,13 @@
 -- What was added to an empty draft is the code of the program.
-use Rattle.std.proofs.Common.{◌≡◌, ℕ, List, [], ◌++◌, length, refl, sym, ap, ◌∙◌, subst}
+use Rattle.std.proofs.Common.{◌≡◌, [], ◌++◌, length, ap, ◌∙◌}
 use Rattle.c_model.specs.declared.tree.Program.{Program}
 use Rattle.vm_code.specs.declared.code.Code.{Code}
-use Rattle.vm_code.specs.declared.instr.Instr.{Instr}
 use Rattle.vm_code.specs.Bounded.{IsBounded}
 use Rattle.vm_code.specs.Means.{Means}
 use Rattle.codegen.specs.declared.draft.Draft.{Draft}
 use Rattle.codegen.specs.Layout.{Part, main_part}
 use Rattle.codegen.specs.Making.{Adds}
-use Rattle.codegen.proofs.Spanning.{Spans, spans_all}
+use Rattle.codegen.proofs.Spanning.{spans_all}
 use Rattle.codegen.proofs.Bounding.{loops_tick}
 use Rattle.codegen.proofs.Acting.{means_program}
 

@@ -17,7 +17,7 @@ use Rattle.c_model.specs.declared.tree.Stmt.TheOpen.{Stmt-F}
 use Rattle.c_model.specs.declared.tree.Stmt.TheFolds.{fold-Stmt, fold-roll-Stmt}
 use Rattle.c_model.specs.declared.tree.Stmt.TheVariants as stmt
 use Rattle.c_model.specs.declared.tree.Program.{Program}
-use Rattle.c_model.specs.Need.{need_of, need_step, Pending, pending, pending_of, pending_step, Fits, IsSimple, IsTooComplex, pending_limit}
+use Rattle.c_model.specs.Need.{need_of, need_step, Pending, pending, pending_of, pending_step, Fits, IsSimple, IsTooComplex}
 use Rattle.codegen.specs.declared.error.GenError.{GenError}
 use Rattle.codegen.specs.declared.error.GenError.TheVariants.{TooComplex, Memory}
 use Rattle.codegen.specs.Checking.{IsFirstPast, Checks}

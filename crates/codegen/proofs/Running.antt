@@ -1,14 +1,13 @@
 -- The machine runs backward from what comes next: one rule an instruction.
-use Rattle.std.proofs.Common.{◌≡◌, ℕ, zero, suc, ℤ, pos, ◌+◌, ◌≤◌, ◌<◌, Bool, true, false, not, List, [], ◌∷◌, ◌++◌, length, replicate, Option, Some, None, refl, sym, ap, ◌∙◌, subst, arith}
+use Rattle.std.proofs.Common.{◌≡◌, ℕ, zero, suc, ℤ, pos, ◌+◌, ◌≤◌, ◌<◌, Bool, true, false, List, ◌∷◌, ◌++◌, length, replicate, Some, refl, ap, ◌∙◌, arith}
 use Rattle.std.specs.Prelude.{slice_get, nat_le, if◌then◌else◌}
 use Rattle.c_model.specs.declared.tree.Ending.{Ending}
-use Rattle.c_model.specs.declared.tree.Ending.TheVariants.{Paused, Ended, Trapped}
-use Rattle.c_model.specs.declared.tree.TrapCause.{TrapCause}
+use Rattle.c_model.specs.declared.tree.Ending.TheVariants.{Paused}
 use Rattle.c_model.specs.declared.tree.TrapCause.TheVariants.{TextLimit}
 use Rattle.c_model.specs.declared.tree.UnaryOp.{UnaryOp}
 use Rattle.c_model.specs.declared.tree.BinaryOp.{BinaryOp}
-use Rattle.c_model.specs.Operators.{Result, Gives, Traps, truth, is_true, operate_one, operate}
-use Rattle.c_model.specs.Run.{Answer, Outcome, Done, Rest, stop, trap, tick, print, text_limit, load, store, change, with_memory, with_result, choose, leave}
+use Rattle.c_model.specs.Operators.{Result, Gives, Traps, is_true, operate_one, operate}
+use Rattle.c_model.specs.Run.{Answer, Outcome, Done, Rest, trap, tick, print, text_limit, load, store, change, with_memory, with_result, choose, leave}
 use Rattle.vm_code.specs.declared.code.Code.{Code}
 use Rattle.vm_code.specs.declared.instr.Instr.{Instr}
 use Rattle.vm_code.specs.declared.instr.Instr.TheVariants.{Tick, Enter, Push, Pop, Local, Load, Store, Unary, Binary, Jump, JumpIfZero, JumpIfNot, Text, Return}
@@ -117,13 +116,6 @@ module _ (code : Code) where
   unfolding act
   does_unary op x place stack most next here d =
       simply (Unary op) place (place + 1) (x ∷ stack) (operate_one op x ∷ stack) most (λ m. m) (next (operate_one op x)) here (λ n answers done. refl) (d (operate_one op x))
-
-  -- what an operator gives, or its trap
-  given : (place : ℕ) (stack : List ℤ) (most line : ℕ) (next : ℤ → Rest) (r : Result) (n : ℕ) (answers : List Answer) (done : Done) (c : Config)
-      → step code c ≡ machine.with_result r line stack (at place (stack) n answers done) → n ≤ most
-      → ((y : ℤ) → Does code (place + 1) (y ∷ stack) most (next y)) → Stops code c (with_result r line next n answers done)
-  given place stack most line next (Gives x) n answers done c e le d = went code c _ _ e ((d x).by n answers done le)
-  given place stack most line next (Traps cause) n answers done c e le d = stopped code c _ _ e
 
   pub does_binary : (op : BinaryOp) (line : ℕ) (x y : ℤ) (place : ℕ) (stack : List ℤ) (most : ℕ) (next : ℤ → Rest) → slice_get code.instrs place ≡ Some (Binary op line)
       → ((z : ℤ) → Does code (place + 1) (z ∷ stack) most (next z)) → Does code place (y ∷ x ∷ stack) most (with_result (operate op x y) line next)

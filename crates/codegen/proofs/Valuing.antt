@@ -1,17 +1,17 @@
 -- The code of an expression puts its value on the operands.
-use Rattle.std.proofs.Common.{◌≡◌, ℕ, zero, suc, ℤ, pos, ◌+◌, ◌≤◌, ◌<◌, Bool, true, false, not, List, [], ◌∷◌, ◌++◌, length, refl, sym, ap, ◌∙◌, subst, arith}
-use Rattle.std.specs.Prelude.{slice_get, if◌then◌else◌}
+use Rattle.std.proofs.Common.{◌≡◌, ℕ, ℤ, pos, ◌+◌, Bool, true, false, not, List, ◌∷◌, refl, sym, ap, subst, arith}
+use Rattle.std.specs.Prelude.{if◌then◌else◌}
 use Rattle.c_model.specs.declared.tree.UnaryOp.{UnaryOp}
 use Rattle.c_model.specs.declared.tree.BinaryOp.{BinaryOp}
 use Rattle.c_model.specs.declared.tree.Expr.{Expr, map-Expr}
 use Rattle.c_model.specs.declared.tree.Expr.TheOpen.{Expr-F}
 use Rattle.c_model.specs.declared.tree.Expr.TheViews.{roll-Expr}
-use Rattle.c_model.specs.declared.tree.Expr.TheFolds.{fold-Expr, fold-roll-Expr, ind-Expr}
+use Rattle.c_model.specs.declared.tree.Expr.TheFolds.{fold-roll-Expr, ind-Expr}
 use Rattle.c_model.specs.Operators.{truth, is_true, operate_one, operate}
 use Rattle.c_model.specs.Run.{Rest, Value, value, value_step, load, store, change, with_memory, with_result, choose}
 use Rattle.vm_code.specs.declared.code.Code.{Code}
-use Rattle.vm_code.specs.declared.instr.Instr.TheVariants.{Push, Local, Load, Store, Unary, Binary, Jump, JumpIfZero, JumpIfNot}
-use Rattle.codegen.specs.Layout.{Part, one, ◌then◌, over, jump_when, truths, decided, expr_step, expr_part}
+use Rattle.vm_code.specs.declared.instr.Instr.TheVariants.{Push, Local, Load, Store, Unary, Binary, JumpIfZero, JumpIfNot}
+use Rattle.codegen.specs.Layout.{Part, one, ◌then◌, decided, expr_step, expr_part}
 use Rattle.codegen.proofs.Running.{Does, does_push, does_local, does_load, does_unary, does_binary, does_store, does_jump, does_if_zero, does_if_not}
 use Rattle.codegen.proofs.Spanning.{stored, Spans, spans_one, spans_then, spans_over, spans_truths, AtTruths}
 

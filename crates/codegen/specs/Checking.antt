@@ -1,5 +1,5 @@
 -- Which full expression is the first to have too many pending values.
-use Rattle.std.specs.Prelude.{ℕ, ◌≡◌, ◌<◌, List, [], ◌∷◌, ◌++◌, Result, Ok, Err}
+use Rattle.std.specs.Prelude.{ℕ, ◌≡◌, ◌<◌, List, ◌∷◌, ◌++◌, Result, Ok, Err}
 use Rattle.std.specs.List.{AllByRecursion}
 use Rattle.c_model.specs.Need.{Pending, Fits, pending_limit}
 use Rattle.codegen.specs.declared.error.GenError.{GenError}

@@ -1,6 +1,6 @@
 -- The code of each construct: its instructions, by the place of the first one and the number of its first literal, and
 -- the texts of its literals.
-use Rattle.std.specs.Prelude.{ℕ, ◌+◌, ℤ, pos, if◌then◌else◌, Bool, true, false, not, List, [], ◌∷◌, ◌++◌, length, map}
+use Rattle.std.specs.Prelude.{ℕ, ◌+◌, pos, if◌then◌else◌, Bool, true, false, not, List, [], ◌∷◌, ◌++◌, length, map}
 use Rattle.c_model.specs.declared.tree.Expr.{Expr, fold-Expr}
 use Rattle.c_model.specs.declared.tree.Expr.TheOpen.{Expr-F}
 use Rattle.c_model.specs.declared.tree.FullExpr.{FullExpr}

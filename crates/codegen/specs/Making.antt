@@ -1,5 +1,5 @@
 -- What a step in the making of code adds to it.
-use Rattle.std.specs.Prelude.{ℕ, ◌≡◌, ◌+◌, Bool, List, [], ◌∷◌, ◌++◌, length, slice_set}
+use Rattle.std.specs.Prelude.{ℕ, ◌≡◌, ◌+◌, Bool, [], ◌∷◌, ◌++◌, length, slice_set}
 use Rattle.vm_code.specs.declared.instr.Instr.{Instr}
 use Rattle.codegen.specs.declared.draft.Draft.{Draft}
 use Rattle.codegen.specs.Layout.{Part, jump_when, truths}

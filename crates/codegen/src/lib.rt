@@ -18,7 +18,12 @@ pub use error::GenError;
 use std::alloc::{AllocError, Global};
 use vm_code::{Code, Instr};
 
-/// Makes code that means the program.
+/// Makes code that means the program: wherever the program's run stands, the machine stops there too.
+///
+/// # Errors
+///
+/// `TooComplex` where more than 32 values are pending at once in a full expression (this profile's own limit), with the
+/// line of the first such one. `Memory` where no memory is left.
 pub fn generate(alloc: Global, program: &Program) -> Result<Code, GenError>
     ensures means { IfOk result (λ code. Means code program.now) }
     ensures simple { IfOk result (λ code. IsSimple program.now) }
@@ -41,3 +46,6 @@ fn emit_main(alloc: Global, draft: &mut Draft, program: &Program) -> Result<(), 
     draft.put(Instr::Push(0))?;
     draft.put(Instr::Return)
 }
+
+#[cfg(test)]
+mod tests;

@@ -13,9 +13,9 @@ use thin_form::{ParseError, parse};
 use thin_tokens::{TokenError, read_tokens};
 use vm_code::Compiled;
 
-/// Compiles a text of fewer than 2 ^ 32 bytes.
+/// Compiles a text of fewer than 2 ^ 31 bytes.
 pub fn compile(alloc: Global, text: &[u8]) -> Result<Compiled, CompileError>
-    requires { length text.now < 2 ^ 32 }
+    requires { length text.now < 2 ^ 31 }
     ensures compiled { IfOk result (IsCompiled text.now) }
     ensures not_built { result ≡ Err CompileError.NotBuilt → IsNotBuilt text.now }
     ensures too_complex { (line : ℕ) → result ≡ Err (CompileError.TooComplex line) → IsTooComplexSource text.now line }

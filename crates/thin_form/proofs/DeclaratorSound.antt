@@ -1,5 +1,5 @@
 -- What is read as declarators, or as a full expression, is such a part.
-use Rattle.std.proofs.Common.{◌≡◌, ℕ, zero, suc, ◌+◌, ◌-◌, ◌<◌, Bool, true, false, cond, nat_eq, Option, Some, None, List, [], ◌∷◌, ◌++◌, refl, sym, ap, ◌∙◌, subst, ◌⊎◌, inl, inr, append_assoc, append-nil, arith}
+use Rattle.std.proofs.Common.{◌≡◌, ℕ, zero, suc, false, nat_eq, Option, Some, None, List, [], ◌∷◌, ◌++◌, refl, sym, ap, ◌∙◌, subst, inl, inr, append_assoc, append-nil}
 use Rattle.c_model.specs.declared.tree.Expr.{Expr}
 use Rattle.c_model.specs.declared.tree.FullExpr.{FullExpr}
 use Rattle.c_model.specs.declared.tree.Stmt.{Stmt}

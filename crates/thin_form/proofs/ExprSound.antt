@@ -1,5 +1,5 @@
 -- What is read as an expression is one.
-use Rattle.std.proofs.Common.{◌≡◌, ℕ, zero, suc, ◌+◌, ◌≤◌, Bool, true, false, cond, nat_eq, Option, Some, None, List, [], ◌∷◌, refl, sym, ap, ◌∙◌, subst, ◌⊎◌, inl, inr, arith}
+use Rattle.std.proofs.Common.{◌≡◌, ℕ, zero, suc, ◌+◌, ◌≤◌, cond, nat_eq, Some, None, List, [], ◌∷◌, refl, sym, ap, ◌∙◌, subst, inl, inr, arith}
 use Rattle.std.proofs.lemmas.Bool.Decides.{Decides-eqb}
 use Rattle.c_model.specs.declared.tree.Expr.{Expr}
 use Rattle.c_model.specs.declared.tree.Expr.TheVariants as expr
@@ -13,7 +13,7 @@ use Rattle.thin_form.specs.declared.operators.Place.{Place}
 use Rattle.thin_form.specs.declared.scope.Declared.{Declared}
 use Rattle.thin_form.specs.Words.{at, mark_at, prefix_of, placed, operator_of, join, chain_limit}
 use Rattle.thin_form.specs.Grammar.{Part, Unary, Level, Chain, Assignment, IsExpr, number, name, parens, prefixed, lowest, chained, first, longer, binary, assign}
-use Rattle.thin_form.specs.Reading.{◌>>=◌, choose, tail, same_mark, after_mark, operator_at, operator_of_kind, operator_in, local_named, local_of, Reader, marked, operand, unary_with, chain, level_from, level_with, assignment_from, assignment_with, unary, assignment}
+use Rattle.thin_form.specs.Reading.{◌>>=◌, tail, same_mark, after_mark, operator_at, operator_of_kind, operator_in, local_named, local_of, Reader, marked, operand, unary_with, chain, level_from, level_with, assignment_from, assignment_with, unary, assignment}
 use Rattle.thin_form.proofs.Found.{some_same, moved, bind_some, choose_some, cond_some, mark_is, after_mark_is}
 use Rattle.thin_form.proofs.NameLemmas.{named_denotes}
 use Rattle.thin_form.proofs.LocalLemmas.{local_of-is}

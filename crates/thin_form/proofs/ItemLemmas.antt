@@ -1,5 +1,5 @@
 -- The steps of reading what stands in a block.
-use Rattle.std.proofs.Common.{◌≡◌, ℕ, zero, suc, ◌+◌, ◌-◌, ◌<◌, ◌≤◌, Option, Some, None, List, [], ◌∷◌, ◌++◌, length, take, refl, sym, ap, ◌∙◌, subst, arith}
+use Rattle.std.proofs.Common.{◌≡◌, ℕ, zero, suc, ◌-◌, ◌<◌, ◌≤◌, Option, Some, None, List, [], length, take, refl, sym, ap, ◌∙◌, arith}
 use Rattle.std.proofs.Math.Seq.{take-append_seam}
 use Rattle.c_model.specs.declared.tree.Stmt.{Stmt}
 use Rattle.c_model.specs.declared.tree.Stmt.TheVariants as stmt
@@ -10,7 +10,7 @@ use Rattle.thin_form.specs.declared.error.ParseError.TheVariants.{NotBuilt, Memo
 use Rattle.thin_form.specs.declared.scope.Declared.{Declared}
 use Rattle.thin_form.specs.declared.scope.Scope.{Scope}
 use Rattle.thin_form.specs.Words.{opened, closed}
-use Rattle.thin_form.specs.Reading.{◌>>=◌, Gives, Fails, choose, after_mark, item, items, block_with, simple, statement}
+use Rattle.thin_form.specs.Reading.{◌>>=◌, Fails, choose, after_mark, item, items, block_with, simple, statement}
 use Rattle.thin_form.proofs.Found.{after_mark_is}
 use Rattle.thin_form.proofs.DeclaratorSound.{Behind}
 use Rattle.thin_form.proofs.ItemsSound.{ItemsFound, item_sound, items_sound, statement_sound}

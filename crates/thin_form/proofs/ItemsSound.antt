@@ -1,5 +1,5 @@
 -- What is read as what stands in a block, or as a program, is such a part.
-use Rattle.std.proofs.Common.{◌≡◌, ℕ, Bool, true, false, zero, suc, ◌+◌, ◌<◌, Option, Some, None, List, [], ◌∷◌, ◌++◌, length, refl, sym, ap, ◌∙◌, subst, ◌⊎◌, inl, inr, append_assoc, append-nil, arith}
+use Rattle.std.proofs.Common.{◌≡◌, ℕ, false, zero, suc, ◌<◌, Some, List, [], ◌∷◌, ◌++◌, length, refl, sym, ap, ◌∙◌, subst, inl, inr, append_assoc, append-nil, arith}
 use Rattle.c_model.specs.declared.tree.Stmt.{Stmt}
 use Rattle.c_model.specs.declared.tree.Stmt.TheVariants as stmt
 use Rattle.thin_tokens.specs.declared.token.Token.{Token}
@@ -9,8 +9,8 @@ use Rattle.thin_tokens.specs.declared.token.Mark.TheVariants as mark
 use Rattle.thin_form.specs.declared.scope.Scope.{Scope}
 use Rattle.thin_form.specs.Words.{at, mark_at, opened, closed}
 use Rattle.thin_form.specs.Grammar.{IsDeclarator, plain, initialised, AreDeclarators, one, more, IsStmt, block, AreItems, end, declaration, statement as item_statement}
-use Rattle.thin_form.specs.Reading.{◌>>=◌, choose, after_mark, after_keyword, ScopedReader, simple, declarators, item, items, block_with, statement}
-use Rattle.thin_form.proofs.Found.{some_same, moved, bind_some, choose_some, after_mark_is, after_keyword_is}
+use Rattle.thin_form.specs.Reading.{◌>>=◌, after_mark, after_keyword, simple, declarators, item, items, block_with, statement}
+use Rattle.thin_form.proofs.Found.{moved, bind_some, choose_some, after_mark_is, after_keyword_is}
 use Rattle.thin_form.proofs.Lengths.{stmt_takes, declarators_take}
 use Rattle.thin_form.proofs.DeclaratorSound.{Behind, DeclaratorsFound, declarators_sound}
 use Rattle.thin_form.proofs.StmtSound.{Found, StmtFound, SoundStmt, simple_sound}

@@ -1,5 +1,5 @@
 -- Each part takes tokens.
-use Rattle.std.proofs.Common.{ℕ, ◌<◌, ◌≤◌, Bool, List, [], ◌∷◌, length, arith}
+use Rattle.std.proofs.Common.{ℕ, ◌<◌, ◌≤◌, Bool, List, length, arith}
 use Rattle.c_model.specs.declared.tree.Expr.{Expr}
 use Rattle.c_model.specs.declared.tree.Stmt.{Stmt}
 use Rattle.thin_tokens.specs.declared.token.Token.{Token}

@@ -1,11 +1,11 @@
 -- The local that is found is the one that the name denotes.
-use Rattle.std.proofs.Common.{◌≡◌, ◌≢◌, ℕ, ◌+◌, ◌<◌, ◌≤◌, ◌/◌, ◌*◌, Bool, true, false, cond, Option, Some, None, List, [], ◌∷◌, ◌++◌, drop, refl, sym, ap, ◌∙◌, subst, ◌⊎◌, inl, inr, arith, ltb}
+use Rattle.std.proofs.Common.{◌≡◌, ◌≢◌, ℕ, ◌<◌, Bool, true, cond, Option, Some, None, List, [], ◌∷◌, ◌++◌, drop, refl, ap, ◌∙◌, inl, inr, arith}
 use Rattle.std.specs.List.{AllByRecursion}
 use Rattle.std.specs.Prelude.{nat_lt}
-use borrow.Author.Tests.{ltb-true, ltb-false}
+use borrow.Author.Tests.{ltb-true}
 use Rattle.thin_form.specs.declared.scope.Declared.{Declared}
 use Rattle.thin_form.specs.declared.scope.Scope.{Scope}
-use Rattle.thin_form.specs.Words.{printf, IsOther, Denotes, MayDeclare, declared, frame_bytes}
+use Rattle.thin_form.specs.Words.{printf, IsOther, Denotes, MayDeclare, declared}
 use Rattle.thin_form.specs.Reading.{choose, same_name, local_in, local_named, declare}
 use Rattle.thin_form.proofs.Found.{some_same, choose_some, cond_some, name_is, name_isnt, other_name, own_name}
 

@@ -1,5 +1,5 @@
 -- Tokens are read as a program exactly where they are one.
-use Rattle.std.proofs.Common.{◌≡◌, ℕ, ◌≤◌, Bool, true, false, cond, Option, Some, None, Result, Ok, Err, List, [], ◌∷◌, length, refl, sym, ap, ◌∙◌, subst, ◌⊎◌, inl, inr, arith}
+use Rattle.std.proofs.Common.{◌≡◌, ℕ, cond, Option, Some, None, Result, Ok, Err, List, [], ◌∷◌, length, refl, sym, ap, ◌∙◌, subst, inl, inr, arith}
 use Rattle.std.specs.Prelude.{codes, IfOk, IsErrOf}
 use Rattle.c_model.specs.declared.tree.Stmt.{Stmt}
 use Rattle.c_model.specs.declared.tree.Program.{Program}
@@ -10,10 +10,10 @@ use Rattle.thin_tokens.specs.declared.token.Mark.TheVariants as mark
 use Rattle.thin_form.specs.declared.error.ParseError.{ParseError}
 use Rattle.thin_form.specs.declared.error.ParseError.TheVariants.{NotBuilt, Memory}
 use Rattle.thin_form.specs.declared.scope.Scope.{Scope}
-use Rattle.thin_form.specs.Words.{at, mark_at, line_of, nothing, opened, closed}
+use Rattle.thin_form.specs.Words.{at, mark_at, line_of, nothing, closed}
 use Rattle.thin_form.specs.Grammar.{AreItems, Parses, main}
 use Rattle.thin_form.specs.Reading.{◌>>=◌, Gives, after_mark, after_keyword, name_of, same_name, items, block_with, statement, head, at_end, program}
-use Rattle.thin_form.proofs.Found.{some_same, moved, bind_some, cond_some, name_is, after_mark_is, after_keyword_is, name_of_is}
+use Rattle.thin_form.proofs.Found.{some_same, bind_some, cond_some, name_is, after_mark_is, after_keyword_is, name_of_is}
 use Rattle.thin_form.proofs.DeclaratorSound.{Behind}
 use Rattle.thin_form.proofs.ItemsSound.{BlockFound, block_sound, statement_sound}
 use Rattle.thin_form.proofs.StmtComplete.{items_read}

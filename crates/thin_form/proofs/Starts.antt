@@ -1,5 +1,5 @@
 -- What a part begins with.
-use Rattle.std.proofs.Common.{◌≡◌, ◌≢◌, ℕ, ℤ, Bool, true, false, cond, Option, Some, None, List, [], ◌∷◌, refl, sym, ap, ◌∙◌}
+use Rattle.std.proofs.Common.{◌≡◌, ◌≢◌, ℕ, ℤ, Bool, false, cond, Some, None, List, ◌∷◌, refl, ap}
 use Rattle.c_model.specs.declared.tree.Expr.{Expr}
 use Rattle.c_model.specs.declared.tree.Stmt.{Stmt}
 use Rattle.c_model.specs.declared.tree.UnaryOp.{UnaryOp}
@@ -13,7 +13,7 @@ use Rattle.thin_form.specs.declared.scope.Declared.{Declared}
 use Rattle.thin_form.specs.declared.scope.Scope.{Scope}
 use Rattle.thin_form.specs.Words.{at, mark_at, prefix_of, printf}
 use Rattle.thin_form.specs.Grammar.{Part, IsExpr, number, name, parens, prefixed, lowest, chained, first, longer, binary, assign, IsStmt, block, empty, express, if_then, if_else, while_do, return_value, print, AreItems, end, declaration, statement}
-use Rattle.thin_form.specs.Reading.{after_mark, after_keyword, lead_of, lead_of_mark, same_mark, same_name}
+use Rattle.thin_form.specs.Reading.{after_mark, after_keyword, lead_of, lead_of_mark, same_mark}
 use Rattle.thin_form.proofs.Found.{other_name}
 
 -- an expression begins with nothing that another part begins with

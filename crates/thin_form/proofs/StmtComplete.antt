@@ -1,7 +1,6 @@
 -- A declarator, a statement and what stands in a block are read, whatever comes behind that doesn't go on with them.
-use Rattle.std.proofs.Common.{◌≡◌, ◌≢◌, ℕ, zero, suc, ◌+◌, ◌-◌, ◌<◌, ◌≤◌, Bool, true, false, cond, nat_eq, Option, Some, None, List, [], ◌∷◌, ◌++◌, length, refl, sym, ap, ◌∙◌, subst, append_assoc, append-nil, arith}
+use Rattle.std.proofs.Common.{◌≡◌, ℕ, zero, suc, ◌-◌, ◌<◌, ◌≤◌, Bool, true, false, cond, nat_eq, Option, Some, None, List, [], ◌∷◌, ◌++◌, length, refl, sym, ap, ◌∙◌, subst, append_assoc, append-nil, arith}
 use Rattle.c_model.specs.declared.tree.Expr.{Expr}
-use Rattle.c_model.specs.declared.tree.FullExpr.{FullExpr}
 use Rattle.c_model.specs.declared.tree.Stmt.{Stmt}
 use Rattle.c_model.specs.declared.tree.Stmt.TheVariants as stmt
 use Rattle.thin_tokens.specs.declared.token.Token.{Token}
@@ -12,9 +11,9 @@ use Rattle.thin_form.specs.declared.cursor.Lead.{Lead}
 use Rattle.thin_form.specs.declared.cursor.Lead.TheVariants as lead
 use Rattle.thin_form.specs.declared.scope.Declared.{Declared}
 use Rattle.thin_form.specs.declared.scope.Scope.{Scope}
-use Rattle.thin_form.specs.Words.{at, mark_at, whole, line_of, declared, MayDeclare, opened, closed, printf}
+use Rattle.thin_form.specs.Words.{at, mark_at, whole, declared, MayDeclare, opened, closed, printf}
 use Rattle.thin_form.specs.Grammar.{Assignment, IsExpr, IsDeclarator, plain, initialised, AreDeclarators, one, more, IsStmt, block, empty, express, if_then, if_else, while_do, return_value, print, AreItems, end, declaration, statement as item_statement}
-use Rattle.thin_form.specs.Reading.{◌>>=◌, choose, tail, after_mark, after_keyword, name_of, text_of, lead_of, assignment, full, test, ended, string, declare, initialiser, declarator, declarators, if_with, while_with, simple_by, simple, item, items, block_with, statement}
+use Rattle.thin_form.specs.Reading.{◌>>=◌, choose, after_mark, after_keyword, name_of, text_of, lead_of, full, test, ended, string, declare, initialiser, declarator, declarators, if_with, while_with, simple_by, simple, item, items, block_with, statement}
 use Rattle.thin_form.proofs.NameLemmas.{may_declare}
 use Rattle.thin_form.proofs.ExprComplete.{Ends, ends_at_paren, ends_at_semicolon, ends_at_comma, assignment_read, unequal}
 use Rattle.thin_form.proofs.Lengths.{declarator_takes, declarators_take, stmt_takes}

@@ -1,7 +1,5 @@
 -- What is read as a statement, or as what stands in a block, is such a part.
-use Rattle.std.proofs.Common.{◌≡◌, ℕ, zero, suc, ◌+◌, ◌-◌, ◌<◌, Bool, true, false, cond, nat_eq, Option, Some, None, List, [], ◌∷◌, ◌++◌, length, refl, sym, ap, ◌∙◌, subst, ◌⊎◌, inl, inr, append_assoc, append-nil, arith}
-use Rattle.c_model.specs.declared.tree.Expr.{Expr}
-use Rattle.c_model.specs.declared.tree.FullExpr.{FullExpr}
+use Rattle.std.proofs.Common.{◌≡◌, ℕ, zero, suc, ◌-◌, Bool, true, false, nat_eq, Option, Some, None, List, ◌∷◌, refl, sym, ap, ◌∙◌, subst, inl, inr, arith}
 use Rattle.c_model.specs.declared.tree.Stmt.{Stmt}
 use Rattle.c_model.specs.declared.tree.Stmt.TheVariants as stmt
 use Rattle.thin_tokens.specs.declared.token.Token.{Token}
@@ -11,12 +9,12 @@ use Rattle.thin_tokens.specs.declared.token.Mark.TheVariants as mark
 use Rattle.thin_form.specs.declared.cursor.Lead.{Lead}
 use Rattle.thin_form.specs.declared.cursor.Lead.TheVariants as lead
 use Rattle.thin_form.specs.declared.scope.Scope.{Scope}
-use Rattle.thin_form.specs.Words.{at, mark_at, whole, line_of, opened, closed, printf}
-use Rattle.thin_form.specs.Grammar.{Assignment, IsExpr, AreDeclarators, IsStmt, block, empty, express, if_then, if_else, while_do, return_value, print, AreItems, end, declaration, statement as item_statement}
-use Rattle.thin_form.specs.Reading.{◌>>=◌, choose, tail, after_mark, after_keyword, text_of, lead_of, test, ended, string, ScopedReader, if_with, while_with, simple_by, simple, declarators, item, items, block_with, statement}
+use Rattle.thin_form.specs.Words.{at, mark_at, whole, line_of, closed, printf}
+use Rattle.thin_form.specs.Grammar.{IsStmt, empty, express, if_then, if_else, while_do, return_value, print}
+use Rattle.thin_form.specs.Reading.{◌>>=◌, choose, tail, after_mark, after_keyword, text_of, lead_of, test, ended, string, ScopedReader, if_with, while_with, simple_by, simple, statement}
 use Rattle.thin_form.proofs.Found.{some_same, moved, bind_some, choose_some, cond_some, after_mark_is, after_keyword_is, text_of_is}
 use Rattle.thin_form.proofs.LeadLemmas.{leads}
-use Rattle.thin_form.proofs.DeclaratorSound.{TestFound, test_sound, ended_sound, Behind, DeclaratorsFound, declarators_sound, has_room}
+use Rattle.thin_form.proofs.DeclaratorSound.{TestFound, test_sound, ended_sound, has_room}
 
 abbrev pub Found : Type 0
 Found = Stmt × Scope × List Token

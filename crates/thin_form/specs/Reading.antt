@@ -1,6 +1,6 @@
 -- How the parts of a program are read from the front of the tokens: each function gives what it finds there and the
 -- tokens behind it, or nothing.
-use Rattle.std.specs.Prelude.{ℕ, ◌≡◌, zero, suc, ◌+◌, ◌-◌, ◌&&◌, not, nat_eq, nat_lt, if◌then◌else◌, Bool, true, false, Option, Some, None, option_and_then, Result, Ok, Err, List, [], ◌∷◌, ◌++◌, length, drop, codes}
+use Rattle.std.specs.Prelude.{ℕ, ◌≡◌, zero, suc, ◌-◌, nat_eq, nat_lt, if◌then◌else◌, Bool, false, Option, Some, None, option_and_then, Result, Ok, Err, List, [], ◌∷◌, ◌++◌, length, drop, codes}
 use Rattle.std.specs.Cmp.Lexicographic.{pointwise}
 use Rattle.c_model.specs.declared.tree.Expr.{Expr, fold-Expr}
 use Rattle.c_model.specs.declared.tree.Expr.TheOpen.{Expr-F}

@@ -1,6 +1,6 @@
 -- The tokens of a source (C11, 6.4, cut to this form), as a relation between a whole text and a list of tokens: the text
 -- is the tokens, each spelled out, with blanks before each and at the end.
-use Rattle.std.specs.Prelude.{◌≡◌, ◌≢◌, ℕ, ◌+◌, ◌<◌, ◌^◌, ◌==◌, ◌||◌, ◌&&◌, not, nat_le, if◌then◌else◌, Bool, IsTrue, ◌⊎◌, ℤ, pos, negsuc, List, [], ◌∷◌, ◌++◌, length, count_by, codes}
+use Rattle.std.specs.Prelude.{◌≡◌, ◌≢◌, ℕ, ◌+◌, ◌<◌, ◌^◌, ◌==◌, ◌||◌, ◌&&◌, not, nat_le, if◌then◌else◌, Bool, IsTrue, ◌⊎◌, pos, negsuc, List, [], ◌∷◌, ◌++◌, length, count_by, codes}
 use Rattle.std.specs.List.{flat_map, AllByRecursion}
 use Rattle.std.specs.Fmt.{decimal}
 use Rattle.thin_tokens.specs.declared.token.Keyword.{Keyword}
@@ -105,12 +105,16 @@ mark_text mark.Percent = codes "%"
 mark_text mark.Tilde = codes "~"
 mark_text mark.Bang = codes "!"
 
--- C's punctuators of more than one byte, and what a comment begins with
-abbrev pub long_marks : List (List ℕ)
-long_marks =
+-- C's punctuators of two bytes, and what a comment begins with
+abbrev pub two_marks : List (List ℕ)
+two_marks =
     codes "->" ∷ codes "++" ∷ codes "--" ∷ codes "<<" ∷ codes ">>" ∷ codes "<=" ∷ codes ">=" ∷ codes "==" ∷ codes "!="
-    ∷ codes "&&" ∷ codes "||" ∷ codes "*=" ∷ codes "/=" ∷ codes "%=" ∷ codes "+=" ∷ codes "-=" ∷ codes "<<=" ∷ codes ">>="
-    ∷ codes "&=" ∷ codes "^=" ∷ codes "|=" ∷ codes "//" ∷ codes "/*" ∷ []
+    ∷ codes "&&" ∷ codes "||" ∷ codes "*=" ∷ codes "/=" ∷ codes "%=" ∷ codes "+=" ∷ codes "-=" ∷ codes "&=" ∷ codes "^="
+    ∷ codes "|=" ∷ codes "//" ∷ codes "/*" ∷ []
+
+-- those of more than one byte
+abbrev pub long_marks : List (List ℕ)
+long_marks = codes "<<=" ∷ codes ">>=" ∷ two_marks
 
 -- the text begins with these bytes
 abbrev pub BeginsWith : List ℕ → List ℕ → Type 0
@@ -181,7 +185,8 @@ pub record IncludesStdio (text rest : List ℕ) (line : ℕ) : Type 0 where
   pub behind_name_blank : Blanks is_blank_in_line behind_name
   pub spelled : text ≡ before ++ (codes "#" ++ behind_mark) ++ (codes "include" ++ behind_word)
       ++ (codes "<stdio.h>" ++ behind_name) ++ 10 ∷ rest
-  pub line_is : line ≡ 2 + (feeds_in before + (feeds_in behind_mark + (feeds_in behind_word + feeds_in behind_name)))
+  -- as many lines end before the rest as in the text and not in the rest
+  pub line_is : line + feeds_in rest ≡ 1 + feeds_in text
 
 -- The text is these tokens, with at most one line `#include <stdio.h>` before them.
 abbrev pub AreTokens : List ℕ → List Token → Type 0

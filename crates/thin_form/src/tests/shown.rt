@@ -31,18 +31,7 @@ fn word_of(op: BinaryOp) -> &'static str {
     }
 }
 
-/// Appends an operator and its operands.
-#[cycle(show_exprs)]
-fn show_two(out: &mut String, word: &str, left: &Expr, right: &Expr) -> Result<(), AllocError> {
-    write!(out, "({word} ")?;
-    show_expr(out, left)?;
-    out.push_str(" ")?;
-    show_expr(out, right)?;
-    out.push_str(")")
-}
-
 /// Appends an expression with each operator before its operands.
-#[cycle(show_exprs)]
 fn show_expr(out: &mut String, expr: &Expr) -> Result<(), AllocError> {
     match expr {
         Expr::Number(number) => write!(out, "{number}"),
@@ -52,9 +41,27 @@ fn show_expr(out: &mut String, expr: &Expr) -> Result<(), AllocError> {
             show_expr(out, operand.get())?;
             out.push_str(")")
         }
-        Expr::Binary(op, left, right) => show_two(out, word_of(*op), left.get(), right.get()),
-        Expr::And(left, right) => show_two(out, "&&", left.get(), right.get()),
-        Expr::Or(left, right) => show_two(out, "||", left.get(), right.get()),
+        Expr::Binary(op, left, right) => {
+            write!(out, "({} ", word_of(*op))?;
+            show_expr(out, left.get())?;
+            out.push_str(" ")?;
+            show_expr(out, right.get())?;
+            out.push_str(")")
+        }
+        Expr::And(left, right) => {
+            out.push_str("(&& ")?;
+            show_expr(out, left.get())?;
+            out.push_str(" ")?;
+            show_expr(out, right.get())?;
+            out.push_str(")")
+        }
+        Expr::Or(left, right) => {
+            out.push_str("(|| ")?;
+            show_expr(out, left.get())?;
+            out.push_str(" ")?;
+            show_expr(out, right.get())?;
+            out.push_str(")")
+        }
         Expr::Assign(local, value) => {
             write!(out, "(= ${local} ")?;
             show_expr(out, value.get())?;

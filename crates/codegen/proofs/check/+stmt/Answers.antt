@@ -1,4 +1,4 @@
-use Rattle.std.proofs.Common.{sym, subst, ◌∙◌, ap, ◌++◌}
+use Rattle.std.proofs.Common.{sym, subst, ◌∙◌, ap}
 use Rattle.std.specs.List.{AllByRecursion, flat_map}
 use Rattle.c_model.specs.Need.{Fits, pending, pending_of}
 use Rattle.codegen.specs.Checking.{Checks}

@@ -1,5 +1,4 @@
-use Rattle.std.proofs.Common.{◌≡◌, ◌<◌, sym, ap, ◌∙◌, arith}
-use Rattle.thin_form.proofs.DeclaratorLemmas.{first_read, first_fails, next_read, next_shorter, next_fails, last_read}
+use Rattle.thin_form.proofs.DeclaratorLemmas.{first_read, first_fails, next_read, next_shorter, next_fails}
 use Rattle.thin_form.proofs.StepLemmas.{passed_on}
 use Rattle.thin_form.proofs.declarations.declarators.Goals as goal
 

@@ -1,4 +1,4 @@
-use Rattle.std.proofs.Common.{◌≡◌, sym, ap, ◌∙◌, arith, ◌<◌}
+use Rattle.std.proofs.Common.{sym, ◌∙◌, arith, ◌<◌}
 use Rattle.thin_form.proofs.StepLemmas.{unary_none, unary_step, assignment_none, assignment_on, assignment_fails, level_from_zero, level_from_on, level_from_fails, chain_end, chain_full, chain_on, chain_fails, fails_along, passed_on}
 use Rattle.thin_form.proofs.expressions.+expressions.Goals as goal
 

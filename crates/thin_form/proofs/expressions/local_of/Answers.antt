@@ -1,4 +1,3 @@
-use Rattle.std.proofs.Common.{Some, None}
 use Rattle.thin_form.proofs.LocalLemmas.{local_of-some, local_of-none}
 use Rattle.thin_form.proofs.expressions.local_of.Goals as goal
 

@@ -1,4 +1,4 @@
-use Rattle.std.proofs.Common.{◌≡◌, sym, ap, ◌∙◌}
+use Rattle.std.proofs.Common.{ap, ◌∙◌}
 use Rattle.thin_form.proofs.ScopeLemmas.{found_last, not_last, not_any}
 use Rattle.thin_form.specs.Reading.{same_name}
 use Rattle.thin_form.proofs.scope.local_in.Goals as goal

@@ -1,4 +1,4 @@
-use Rattle.std.proofs.Common.{◌≡◌, ◌<◌, sym, ap, ◌∙◌, arith, refl}
+use Rattle.std.proofs.Common.{◌<◌, ◌∙◌, arith, refl}
 use Rattle.thin_form.proofs.ItemLemmas.{items_next, item_shorter, items_failed, items_end, block_on, item_same, statement_none, statement_left, statement_fails, statement_read}
 use Rattle.thin_form.proofs.StepLemmas.{passed_on, fails_along}
 use Rattle.thin_form.proofs.statements.+statements.Goals as goal

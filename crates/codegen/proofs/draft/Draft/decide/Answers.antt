@@ -1,4 +1,4 @@
-use Rattle.std.proofs.Common.{rules, SFits, w32, ap, ◌+◌, ◌∙◌}
+use Rattle.std.proofs.Common.{rules, SFits, w32, ap, ◌+◌}
 use Rattle.std.proofs.lemmas.Result.{on_ok_weaker}
 use Rattle.codegen.proofs.Emitting.{decided_from, pushed}
 use Rattle.codegen.proofs.draft.Draft.decide.Goals as goal

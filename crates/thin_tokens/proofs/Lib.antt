@@ -1,0 +1,10 @@
+pub mod BlankLaws
+pub mod StringLaws
+pub mod NumberLaws
+pub mod MarkSteps
+pub mod WordLaws
+pub mod MarkLaws
+pub mod KindLaws
+pub mod IncludeLaws
+pub mod TokenLaws
+pub mod ReaderLaws
