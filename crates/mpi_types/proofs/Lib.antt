@@ -1,0 +1,4 @@
+pub mod ListLemmas
+pub mod BookLemmas
+pub mod OnceLemmas
+pub mod CallLemmas

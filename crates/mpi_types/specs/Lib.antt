@@ -1,0 +1,7 @@
+pub mod Accepts
+pub mod First
+pub mod Book
+pub mod Post
+pub mod Tables
+pub mod Journal
+pub mod Calls

@@ -1,0 +1,6 @@
+pub mod AnswerLaws
+pub mod EventLaws
+pub mod LineLaws
+pub mod MadeLaws
+pub mod PrintedLaws
+pub mod WordLaws
