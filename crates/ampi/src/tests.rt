@@ -68,6 +68,7 @@ fn hello_on_two_ranks(rt: HostRuntime) -> Result<(), Fail> {
 }
 
 /// A source named `t.c`, further words, and the answer, output and journal that are wanted.
+#[derive(Drop)]
 struct Case {
     words: &'static [&'static str],
     source: &'static str,
