@@ -1,14 +1,13 @@
 -- A run of the machine, instruction by instruction.
-use Rattle.std.proofs.Common.{ℕ, zero, suc, ◌≡◌, ◌≢◌, ◌+◌, ◌-◌, ◌*◌, ◌<◌, ◌≤◌, List, [], ◌∷◌, ◌++◌, length, Option, Some, None, refl, sym, ap, ◌∙◌, ◌^◌, subst, arith, Bool, true, false, inl, inr}
+use Rattle.std.proofs.Common.{ℕ, zero, suc, ◌≡◌, ◌≢◌, ◌+◌, ◌-◌, ◌*◌, ◌<◌, ◌≤◌, List, [], ◌∷◌, ◌++◌, length, Option, Some, None, refl, sym, ap, ◌∙◌, subst, arith, Bool, true, false, inl, inr}
 use Rattle.std.proofs.Math.Logic.{∥∥₁_elim}
 use Rattle.std.proofs.Math.Bridge.{le_prop}
 use Rattle.std.proofs.lemmas.Option.{slice_get_within, slice_get-get_or}
 use Rattle.std.proofs.lemmas.Bool.{cases_lt}
 use Rattle.std.proofs.lemmas.Bool.Decides.{eqb_tells}
-use Rattle.std.specs.Prelude.{ℤ, pos, get_or, slice_get, nat_le, if◌then◌else◌, ◌⊎◌}
+use Rattle.std.specs.Prelude.{ℤ, get_or, slice_get, nat_le, if◌then◌else◌, ◌⊎◌}
 use Rattle.c_model.specs.declared.tree.Ending.{Ending}
 use Rattle.c_model.specs.declared.tree.Ending.TheVariants.{Paused, Ended, Trapped}
-use Rattle.c_model.specs.declared.tree.TrapCause.{TrapCause}
 use Rattle.c_model.specs.declared.tree.BinaryOp.{BinaryOp}
 use Rattle.c_model.specs.declared.tree.TrapCause.TheVariants.{TextLimit}
 use Rattle.c_model.specs.Operators.{Result, Gives, Traps, is_true, operate}
@@ -16,11 +15,11 @@ use Rattle.c_model.specs.Run.{Answer, Outcome, text_limit}
 use Rattle.vm_code.specs.declared.code.Code.{Code}
 use Rattle.vm_code.specs.declared.instr.Instr.{Instr}
 use Rattle.vm_code.specs.declared.instr.Instr.TheVariants.{Tick, Enter, Push, Pop, Local, Load, Store, Unary, Binary, Jump, JumpIfZero, JumpIfNot, Text, Return}
-use Rattle.vm_code.specs.Bounded.{target_of, LoopsTick, IsBounded}
-use Rattle.vm_code.specs.Machine.{Config, Moved, Went, Stopped, Stuck, act, follow, step, exec, with_top, with_two, with_result, print, take_tick, trapped, outcome_of}
+use Rattle.vm_code.specs.Bounded.{target_of, LoopsTick}
+use Rattle.vm_code.specs.Machine.{Config, Moved, Went, Stopped, Stuck, act, follow, step, exec, with_top, with_two, with_result, print, take_tick, trapped}
 use Rattle.vm_code.specs.Means.{Stops, Goes, given}
 use Rattle.rank_machine.specs.declared.machine.Machine.{Machine}
-use Rattle.rank_machine.specs.Runs.{config_of, Reaches, Pauses, Ran}
+use Rattle.rank_machine.specs.Runs.{config_of, Pauses, Ran}
 use Rattle.rank_machine.specs.Steps.{moved, Moves}
 use Rattle.rank_machine.specs.Weight.{weight, distance, unless_tick}
 
@@ -430,7 +429,6 @@ falls code old budget now left i new left' goes found g moves =
     let P : Moved → Type 0 = λ m. Led code.literals i (config_of now left []) m in
     let by = subst P e (led code.literals i (config_of now left [])) in
     ∥∥₁_elim code.bounded le_prop (λ loops. falls-by code.literals code.instrs i (config_of now left []) (config_of new left' []) loops found by)
-
 
 pub found-at : (xs ys : List Instr) (p : ℕ) (d : Instr) → ys ≡ xs → p < length xs → slice_get xs p ≡ Some (get_or ys p d)
 found-at xs ys p d same within = slice_get-get_or xs p d within ∙ ap (λ l. Some (get_or l p d)) (sym same)

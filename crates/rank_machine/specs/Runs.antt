@@ -1,5 +1,5 @@
 -- What a machine did in a run of so many ticks.
-use Rattle.std.specs.Prelude.{ℕ, ◌≡◌, ◌+◌, ◌<◌, List, []}
+use Rattle.std.specs.Prelude.{ℕ, ◌≡◌, ◌+◌, ◌<◌, List}
 use Rattle.c_model.specs.declared.tree.Ending.{Ending}
 use Rattle.c_model.specs.declared.tree.Ending.TheVariants.{Paused}
 use Rattle.c_model.specs.Run.{Answer, Outcome}

@@ -1,7 +1,7 @@
 -- How far a machine is from the end of its code or from its next tick point, and so how long a run can still be.
 use Rattle.std.specs.Prelude.{ℕ, ◌+◌, ◌-◌, ◌*◌, List, length, Option, Some, None, slice_get}
 use Rattle.vm_code.specs.declared.instr.Instr.{Instr}
-use Rattle.vm_code.specs.declared.instr.Instr.TheVariants.{Tick, Enter, Push, Pop, Local, Load, Store, Unary, Binary, Jump, JumpIfZero, JumpIfNot, Text, Return}
+use Rattle.vm_code.specs.declared.instr.Instr.TheVariants.{Tick}
 
 abbrev pub unless_tick : Option Instr → ℕ → ℕ
 unless_tick None d = d

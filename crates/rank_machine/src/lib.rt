@@ -6,15 +6,19 @@ ghost use Rattle.vm_code.specs.Means.{Goes};
 ghost use Rattle.vm_code.specs.Machine.{start};
 ghost use Rattle.rank_machine.specs.Runs.{config_of, Ran};
 
+mod laws;
 mod locals;
 mod machine;
 mod operands;
 mod operators;
 mod step;
+#[cfg(test)]
+mod tests;
 
 use crate::step::step;
 use am_base::Bytes;
 use c_model::Ending;
+pub use laws::runs_join;
 pub use locals::Locals;
 pub use machine::Machine;
 pub use operands::Operands;

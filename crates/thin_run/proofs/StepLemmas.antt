@@ -1,18 +1,18 @@
 -- A rank's run, by that of its machine.
-use Rattle.std.proofs.Common.{ℕ, ◌≡◌, ◌+◌, ◌-◌, ◌<◌, ◌≤◌, min, List, [], refl, sym, ap, ◌∙◌, subst, arith, Bool, true}
+use Rattle.std.proofs.Common.{ℕ, ◌≡◌, ◌+◌, ◌-◌, ◌≤◌, min, [], refl, sym, ap, ◌∙◌, subst, arith, true}
 use Rattle.c_model.specs.declared.tree.Program.{Program}
 use Rattle.c_model.specs.declared.tree.Ending.{Ending}
 use Rattle.c_model.specs.declared.tree.Ending.TheVariants.{Paused, Ended, Trapped}
 use Rattle.w_model.specs.Texts.{is_unended}
-use Rattle.c_model.specs.Run.{Answer, Outcome, run_of}
+use Rattle.c_model.specs.Run.{Outcome, run_of}
 use Rattle.vm_code.specs.declared.code.Code.{Code}
 use Rattle.vm_code.specs.Machine.{Config, Moved, Stopped, exec, start, outcome_of}
 use Rattle.vm_code.specs.Means.{Stops, Means, Goes, given}
-use Rattle.rank_machine.specs.Runs.{config_of} 
+use Rattle.rank_machine.specs.Runs.{config_of}
 use Rattle.rank_machine.specs.Runs as machine
 use Rattle.rank_machine.proofs.GoLemmas.{stays}
 use Rattle.thin_run.specs.declared.rank.Rank.{Rank}
-use Rattle.thin_run.specs.Rank.{StandsFor, Ticked, Ran}
+use Rattle.thin_run.specs.Rank.{StandsFor, Ran}
 
 -- a machine stops in one way
 one-stop : (code : Code) (c : Config) (j k : ℕ) (e d : Ending) (l m : Config) → exec code j c ≡ Stopped e l → exec code k c ≡ Stopped d m

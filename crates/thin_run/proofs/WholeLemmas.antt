@@ -1,13 +1,13 @@
 -- A whole run.
-use Rattle.std.proofs.Common.{ℕ, zero, suc, ◌≡◌, ◌+◌, ◌*◌, ◌<◌, ◌≤◌, List, [], ◌∷◌, ◌++◌, length, refl, sym, ap, ◌∙◌, subst, arith, Bool, false, Result, Ok, Err, IfOk}
+use Rattle.std.proofs.Common.{ℕ, ◌≡◌, List, [], ◌∷◌, ◌++◌, length, refl, sym, ap, ◌∙◌, subst, Result, Ok, Err, IfOk}
 use Rattle.std.specs.Prelude.{replicate}
-use Rattle.std.specs.List.{flat_map, range_with_len, list_any}
+use Rattle.std.specs.List.{flat_map}
 use Rattle.c_model.specs.declared.tree.Program.{Program}
 use Rattle.w_model.specs.declared.entries.Entry.{Entry}
-use Rattle.w_model.specs.declared.entries.Entry.TheVariants.{Tick, Commit}
-use Rattle.w_model.specs.World.{Setting, world_of, start_world, outcome_at}
+use Rattle.w_model.specs.declared.entries.Entry.TheVariants.{Commit}
+use Rattle.w_model.specs.World.{Setting, world_of, start_world}
 use Rattle.w_model.specs.Cut.{rank_numbers}
-use Rattle.w_model.specs.Texts.{is_at_bound, is_unended, end_at, run_lines, runs_of, rank_line_at, end_line}
+use Rattle.w_model.specs.Texts.{end_at, run_lines, runs_of, rank_line_at, end_line}
 use Rattle.w_model.specs.Drain.{IsDrain}
 use Rattle.w_model.proofs.DrainLemmas.{marked-whole}
 use Rattle.vm_code.specs.declared.code.Code.{Code}

@@ -1,5 +1,5 @@
 -- What is told of a whole run.
-use Rattle.std.specs.Prelude.{ℕ, ◌≡◌, ◌≤◌, ◌*◌, ◌+◌, Bool, List, [], ◌∷◌, ◌++◌, length}
+use Rattle.std.specs.Prelude.{ℕ, ◌≡◌, Bool, List, [], ◌∷◌, ◌++◌}
 use Rattle.std.specs.List.{flat_map}
 use Rattle.c_model.specs.declared.tree.Program.{Program}
 use Rattle.w_model.specs.declared.entries.Entry.{Entry}

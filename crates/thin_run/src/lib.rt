@@ -3,7 +3,8 @@
 
 mod group;
 mod rank;
+#[cfg(test)]
+mod tests;
 mod told;
 
 pub use told::{Told, run};
-

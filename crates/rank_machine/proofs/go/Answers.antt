@@ -1,4 +1,4 @@
-use Rattle.std.proofs.Common.{arith, ◌≡◌, ◌≤◌, ◌<◌, [], length}
+use Rattle.std.proofs.Common.{arith, ◌≤◌, ◌<◌, [], length}
 use Rattle.std.proofs.lemmas.Option.{slice_get_past}
 use Rattle.rank_machine.proofs.GoLemmas.{going-start, going-next, going-end, no-end, falls, found-at}
 use Rattle.rank_machine.proofs.go.Goals as goal

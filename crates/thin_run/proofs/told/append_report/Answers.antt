@@ -1,4 +1,4 @@
-use Rattle.std.proofs.Common.{ap, ◌∙◌, ◌++◌, append_assoc}
+use Rattle.std.proofs.Common.{ap, ◌∙◌, ◌++◌}
 use Rattle.w_model.specs.Texts.{end_line}
 use Rattle.thin_run.proofs.told.append_report.Goals as goal
 

@@ -1,6 +1,6 @@
-use Rattle.std.proofs.Common.{sym, ap, ◌∙◌, refl}
+use Rattle.std.proofs.Common.{sym, ◌∙◌, refl}
 use Rattle.w_model.specs.World.{world_of}
-use Rattle.w_model.specs.Texts.{end_of, end_untrapped}
+use Rattle.w_model.specs.Texts.{end_untrapped}
 use Rattle.thin_run.proofs.ToldLemmas.{end-of-all}
 use Rattle.thin_run.proofs.told.end_of.Goals as goal
 

@@ -1,5 +1,5 @@
 use Rattle.std.proofs.Common.{sym, refl}
-use Rattle.thin_run.proofs.StepLemmas.{goes-on, ran-none, ran-machine, unended-paused}
+use Rattle.thin_run.proofs.StepLemmas.{goes-on, ran-machine, unended-paused}
 use Rattle.thin_run.proofs.rank.Rank.run.Goals as goal
 
 pub go-requires-clause-goes : goal.go-requires-clause-goes

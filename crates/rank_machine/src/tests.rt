@@ -1,0 +1,4 @@
+mod operators;
+mod programs;
+mod runs;
+mod steps;
