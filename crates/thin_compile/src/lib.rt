@@ -36,3 +36,6 @@ pub fn compile(alloc: Global, text: &[u8]) -> Result<Compiled, CompileError>
         Err(GenError::Memory) => Err(CompileError::Memory),
     }
 }
+
+#[cfg(test)]
+mod tests;

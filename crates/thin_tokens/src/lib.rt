@@ -32,3 +32,6 @@ pub fn read_tokens(alloc: Global, text: &[u8]) -> Result<Vec<Token>, TokenError>
 pub fn one_list_of_tokens()
     ensures { (text : List ℕ) (a b : List AToken) → AreTokens text a → AreTokens text b → a ≡ b }
 {}
+
+#[cfg(test)]
+mod tests;
