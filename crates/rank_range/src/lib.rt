@@ -1,0 +1,22 @@
+//! A rank's memory: its addresses, the bytes that it may reach, and what its heap is.
+#![tactic(auto)]
+
+mod flat;
+mod heap;
+mod layout;
+mod mem;
+mod numbers;
+mod width;
+
+pub use flat::FlatMem;
+pub use heap::{Block, MOST_BLOCKS, first_fit, first_fit_is_one, spelled_heap_is_one};
+pub use layout::{
+    CONTROL_START, DESCRIPTORS_START, GLOBALS_START, HEAP_START, PAGE_BYTES, PAGES, RANGE_BYTES,
+    STACK_START, base, is_accessible, place_of,
+};
+pub use mem::{BadAddress, Mem};
+pub use numbers::{read_number, stored_numbers_are_loaded, write_number};
+pub use width::Width;
+
+#[cfg(test)]
+mod tests;
