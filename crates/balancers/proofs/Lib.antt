@@ -1,0 +1,7 @@
+pub mod PlacedLemmas
+pub mod RotationLemmas
+pub mod SpreadLemmas
+pub mod SumLemmas
+pub mod StandingLemmas
+pub mod RefineLemmas
+pub mod MoveLemmas
