@@ -1,0 +1,13 @@
+pub mod Bytes
+pub mod Changes
+pub mod Shape
+pub mod Steps
+pub mod Sound
+pub mod Blocks
+pub mod Room
+pub mod Taken
+pub mod Zeros
+pub mod Walk
+pub mod Given
+pub mod Top
+pub mod Fresh
