@@ -1,0 +1,16 @@
+pub mod Reading
+pub mod Blanks
+pub mod Words
+pub mod Literals
+pub mod Lexemes
+pub mod Pieces
+pub mod Faults
+pub mod Tokens
+pub mod Expanding
+pub mod Table
+pub mod Frames
+pub mod Joining
+pub mod Fronts
+pub mod WordVerdicts
+pub mod NumberVerdicts
+pub mod Progress
