@@ -2,7 +2,6 @@ mod blanks;
 mod directives;
 mod literals;
 mod numbers;
-mod replacing;
 mod shown;
 mod words;
 

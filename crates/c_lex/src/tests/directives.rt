@@ -100,7 +100,14 @@ fn definitions(rt: HostRuntime) -> Result<(), Fail> {
 }
 
 /// What macros become.
-const MACROS: [(&[u8], &str); 14] = [
+const MACROS: [(&[u8], &str); 18] = [
+    (
+        b"#define A B x B\n#define B E A E\n#define E\nA",
+        "@4 $A $x $A",
+    ),
+    (b"#define x A\n#define A x A y\nA", "@3 $A $A $y"),
+    (b"#define E\n#define A E E\nA x A E", "@3 $x"),
+    (b"#define E\n#define A E x E\nA\nA E A", "@3 $x @4 $x $x"),
     (b"#define A A\nA", "@2 $A"),
     (b"#define A B\n#define B A\nA B", "@3 $A $B"),
     (b"#define A x A y\nA", "@2 $x $A $y"),
@@ -136,30 +143,22 @@ fn doubling(rt: &impl Abort, alloc: Global, first: &str, depth: u32) -> Result<S
     Ok(source)
 }
 
-#[test]
-fn too_many(rt: HostRuntime) -> Result<(), Fail> {
-    let alloc = rt.alloc();
-    let mut source = doubling(&rt, alloc, "x", 21)?;
-    let place = source.len();
-    source.push_str("A20 y")?;
-    let found = answer_of(&rt, alloc, source.as_str().as_bytes())?;
-    assert!(rt; place < 1000);
-    let want = format!(in alloc; "TooMany {{ at: {} }}", place + 4)?;
-    assert_eq!(rt; found.as_str(), want.as_str());
-    source.truncate(place);
-    source.push_str("A21")?;
-    let found = answer_of(&rt, alloc, source.as_str().as_bytes())?;
-    let want = format!(in alloc; "TooMany {{ at: {place} }}")?;
-    assert_eq!(rt; found.as_str(), want.as_str());
-    Ok(())
-}
+/// Macros `A0`, `A1` and so on up to a number, of which the first is these tokens; what stands behind their definitions; and
+/// the answer.
+const DOUBLED: [(&str, u32, &[u8], &str); 3] = [
+    ("x", 21, b"A20 y", "TooMany { at: 408 }"),
+    ("x", 21, b"A21", "TooMany { at: 404 }"),
+    ("", 40, b"A40 x A40", "@42 $x"),
+];
 
 #[test]
-fn nothing_is_quick(rt: HostRuntime) -> Result<(), Fail> {
+fn doubled(rt: HostRuntime) -> Result<(), Fail> {
     let alloc = rt.alloc();
-    let mut source = doubling(&rt, alloc, "", 40)?;
-    source.push_str("A40 x A40")?;
-    let found = answer_of(&rt, alloc, source.as_str().as_bytes())?;
-    assert_eq!(rt; found.as_str(), "@42 $x");
+    for (first, depth, behind, want) in DOUBLED {
+        let mut source = doubling(&rt, alloc, first, depth)?.into_bytes();
+        source.extend_from_slice(behind)?;
+        let found = answer_of(&rt, alloc, source.as_slice())?;
+        assert_eq!(rt; found.as_str(), want);
+    }
     Ok(())
 }

@@ -48,7 +48,8 @@ fn characters(rt: HostRuntime) -> Result<(), Fail> {
 }
 
 /// Strings, by themselves and next to each other.
-const STRINGS: [(&[u8], &str); 36] = [
+const STRINGS: [(&[u8], &str); 37] = [
+    (b"x \"a\" \"b\" \"c\" y \"d\" z", "$x \"abc\" $y \"d\" $z"),
     (b"\"\"", "\"\""),
     (b"\"a b\"", "\"a b\""),
     (b"\"'\"", "\"'\""),
