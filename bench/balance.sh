@@ -3,6 +3,7 @@
 # folder of its own; it plans the same loads so many times. The time of a run with no plans is taken off.
 set -eu
 top=$(cd "$(dirname "${BASH_SOURCE[0]}")/.." && pwd)
+. "$top/bench/timing.sh"
 place=$(mktemp -d)
 trap 'rm -rf "$place"' EXIT
 mkdir -p "$place/crates"
@@ -73,18 +74,11 @@ MAIN
 } >src/main.rt
 rt run -- 0 1 >"$place/out" 2>"$place/built" || { tail -n 20 "$place/built" >&2; exit 1; }
 program=$place/crates/plans/out/plans
-took() {
-  local start end
-  start=$(date +%s%N)
-  "$program" "$1" "$2" >/dev/null
-  end=$(date +%s%N)
-  echo $((end - start))
-}
 plans=2000
 rule=0
 for name in rotate greedy refine; do
-  none=$(took "$rule" 0)
-  some=$(took "$rule" "$plans")
+  none=$(time_of "$program" "$rule" 0) || exit 1
+  some=$(time_of "$program" "$rule" "$plans") || exit 1
   echo "$name, 256 ranks on 64 processors: $(((some - none) / plans / 1000)) microseconds"
   rule=$((rule + 1))
 done

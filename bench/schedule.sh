@@ -4,6 +4,7 @@
 # so many times. The time of a run with no reads is taken off.
 set -eu
 top=$(cd "$(dirname "${BASH_SOURCE[0]}")/.." && pwd)
+. "$top/bench/timing.sh"
 place=$(mktemp -d)
 trap 'rm -rf "$place"' EXIT
 mkdir -p "$place/crates"
@@ -45,16 +46,9 @@ fn main(rt: HostRuntime) -> Result<()> {
 MAIN
 rt run -- 1 1 >/dev/null 2>"$place/built" || { tail -n 20 "$place/built" >&2; exit 1; }
 program=$place/crates/reads/out/reads
-took() {
-  local start end
-  start=$(date +%s%N)
-  "$program" "$1" "$2" >/dev/null
-  end=$(date +%s%N)
-  echo $((end - start))
-}
 reads=10
 for count in 125000 250000 500000 1000000; do
-  none=$(took "$count" 0)
-  some=$(took "$count" "$reads")
+  none=$(time_of "$program" "$count" 0) || exit 1
+  some=$(time_of "$program" "$count" "$reads") || exit 1
   echo "$count events: $((count * reads * 1000000 / ((some - none) / 1000 + 1))) events read a second"
 done
