@@ -15,7 +15,7 @@ pub enum External {
         token: u32,
         specs: Specs<Specifier>,
         declarator: Declarator,
-        body: Items<BlockItem<Stmt>>,
+        body: Items<BlockItem<Boxed<Stmt>>>,
     },
 }
 
