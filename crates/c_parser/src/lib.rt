@@ -1,0 +1,62 @@
+//! The parser of the grammar: from tokens to a tree.
+#![tactic(auto)]
+
+ghost use Rattle.std.specs.Prelude.{◌≡◌, ◌<◌, ◌≤◌, ◌^◌, ℕ, List, length, IfOk, IfErr, IfSome};
+ghost use Rattle.c_lex.specs.declared.token.Token.{Token};
+ghost use Rattle.c_ast.specs.declared.declaration.Unit.{Unit as AUnit};
+ghost use Rattle.c_parser.specs.Grammar.{Parses, ParsesWithin};
+ghost use Rattle.c_parser.specs.Refusals.{GoesOn, GoesOnSomehow, IsRefused, token_of, unexpected_of};
+
+mod cursor;
+mod declarators;
+mod error;
+mod expressions;
+mod grammar;
+mod initialisers;
+mod levels;
+mod nested;
+mod operators;
+mod parameters;
+mod scope;
+mod specifiers;
+mod statements;
+mod structures;
+mod units;
+
+use c_ast::Unit;
+use c_lex::Token;
+pub use error::ParseError;
+use std::alloc::Global;
+
+/// How deep tokens may nest.
+const LIMIT: u8 = 64;
+
+/// Reads the tokens of a file, fewer than 2^32, as a unit: with no nesting over 64, and no chain of operators over 512.
+///
+/// # Errors
+///
+/// The number of the first token that shows that they are no such unit, where the end counts as the last token; `Memory` where
+/// memory runs out.
+pub fn parse(alloc: Global, tokens: &[Token]) -> Result<Unit, ParseError>
+    requires { length tokens.now < 2 ^ 32 }
+    // What is read is the tokens' unit.
+    ensures parses { IfOk result (λ unit. ParsesWithin 64 512 tokens.now unit) }
+    // A unit within the limits begins with the tokens before the one that is told, and none goes on with that one.
+    ensures refused { IfErr result (λ e. IfSome (token_of e) (λ k. IsRefused 64 512 tokens.now k)) }
+    // A token that is told as unexpected is one that no unit at all goes on with.
+    ensures unexpected { IfErr result (λ e. IfSome (unexpected_of e) (λ k. GoesOnSomehow tokens.now k → ⊥)) }
+{
+    let read = units::unit(alloc, tokens.len() as u32, tokens, LIMIT);
+    nested::settled(alloc, tokens, read)
+}
+
+/// A law: tokens are of one unit at most.
+pub fn one_unit()
+    ensures { (ts : List Token) (a b : AUnit) → Parses ts a → Parses ts b → a ≡ b }
+{}
+
+/// A law: all of a unit within limits goes on, and just one token is the first that is refused.
+pub fn one_refusal()
+    ensures goes_on { (limit most : ℕ) (ts : List Token) (unit : AUnit) → ParsesWithin limit most ts unit → (k : ℕ) → k ≤ length ts → GoesOn limit most ts k }
+    ensures one { (limit most : ℕ) (ts : List Token) (a b : ℕ) → IsRefused limit most ts a → IsRefused limit most ts b → a ≡ b }
+{}
