@@ -1,11 +1,11 @@
 -- Readers over two lists of tokens that are the same up to a token: on both they do the same, or they go on behind that token.
-use Rattle.std.proofs.Common.{◌≡◌, ℕ, zero, suc, ◌+◌, ◌-◌, ◌≤◌, Bool, true, false, cond, Option, Some, None, Result, Ok, Err, List, [], ◌∷◌, ◌++◌, ◌&&◌, length, refl, sym, ap, ◌∙◌, subst, length-append, arith}
+use Rattle.std.proofs.Common.{◌≡◌, ℕ, zero, suc, ◌+◌, ◌-◌, ◌≤◌, Bool, true, false, cond, Option, Some, None, Ok, Err, List, [], ◌∷◌, ◌++◌, ◌&&◌, length, refl, sym, ap, ◌∙◌, subst, length-append, arith}
 use Rattle.c_lex.specs.declared.token.Token.{Token}
 use Rattle.c_lex.specs.declared.token.Keyword.{Keyword}
 use Rattle.c_lex.specs.declared.token.Mark.{Mark}
 use Rattle.c_parser.specs.Names.{Names}
 use Rattle.c_parser.specs.Words.{number_of}
-use Rattle.c_parser.specs.Reading.{State, Fault, Unexpected, TooNested, Outcome, Reader, ◌>>=◌, is_mark, is_keyword, is_name, sees_mark, sees_keyword, tail, behind, here, expect_mark, expect_keyword, expect_name, name_at_front, or_unexpected}
+use Rattle.c_parser.specs.Reading.{State, Fault, Unexpected, TooNested, Outcome, Reader, ◌>>=◌, is_mark, is_name, sees_mark, sees_keyword, tail, behind, here, expect_mark, expect_keyword, expect_name, name_at_front, or_unexpected}
 use Rattle.c_ast.specs.declared.words.Name.{Name}
 use Rattle.c_parser.specs.ReadingExpr.{choose}
 

@@ -1,5 +1,5 @@
 -- Where all tokens may stand beyond the limits, each part stands within the bounds.
-use Rattle.std.proofs.Common.{◌∷◌, ℕ, suc, ◌+◌, ◌≤◌, Bool, Option, List, length, arith}
+use Rattle.std.proofs.Common.{ℕ, suc, ◌≤◌, Bool, Option, List, length, arith}
 use Rattle.c_lex.specs.declared.token.Token.{Token}
 use Rattle.c_ast.specs.declared.words.Qualifier.{Qualifier}
 use Rattle.c_ast.specs.declared.expression.Expr.{Expr}
@@ -30,7 +30,7 @@ use Rattle.c_parser.specs.Types.{Typed}
 use Rattle.c_parser.specs.Grammar as g
 use Rattle.c_parser.specs.Grammar.{Part, AreQualifiers, ArePointers, IsExpr, AreLinks, AreOthers, ArePostfix, AreArguments, IsTypeNamed, IsAbstract, AreSizes, IsSize, AreSpecs, AreSpecifiers, IsStruct, AreMembers, IsMember, AreDeclarators, IsEnum, AreEnumerators, IsEnumerator, IsDeclarator, IsDirect, AreSuffixes, AreParams, IsParam, IsInit, AreInits, IsInitDeclarator, AreInitDeclarators, IsDecl, IsOptional, IsForStart, IsTest, IsStmt, AreItems, IsExternal, AreExternals}
 use Rattle.c_parser.specs.Nesting.{Bounds, qualifiers_stand, pointers_stand, expr_stands, links_stand, others_stand, postfix_stand, arguments_stand, listed_stand, type_stands, abstract_stands, sizes_stand, size_stands, specs_stand, specifiers_stand, struct_stands, members_stand, member_stands, declarators_stand, enum_stands, enumerators_stand, enumerator_stands, declarator_stands, direct_stands, suffixes_stand, params_stand, param_stands, init_stands, inits_stand, init_declarator_stands, init_declarators_stand, decl_stands, optional_stands, for_start_stands, test_stands, stmt_stands, items_stand, external_stands, externals_stand}
-use Rattle.c_parser.proofs.Extends.{qualifiers_take, pointers_take, expr_extends, links_extend, others_extend, postfix_extends, arguments_extend, type_named_extends, abstract_extends, sizes_extend, size_extends, specs_extend, specifiers_extend, struct_extends, members_extend, member_extends, declarators_extend, enum_extends, enumerators_extend, enumerator_extends, declarator_extends, direct_extends, suffixes_extend, params_extend, param_extends}
+use Rattle.c_parser.proofs.Extends.{qualifiers_take, pointers_take, expr_extends, arguments_extend, type_named_extends, size_extends, specs_extend, struct_extends, members_extend, member_extends, declarators_extend, enum_extends, enumerators_extend, enumerator_extends, declarator_extends, direct_extends, params_extend, param_extends}
 use Rattle.c_parser.proofs.StmtExtends.{init_extends, inits_extend, init_declarator_extends, init_declarators_extend, decl_extends, optional_extends, start_extends, test_extends, stmt_extends, items_extend}
 
 pub qualifiers_late : (b : Bounds) {room : ℕ} {ts : List Token} {rest : List Token} {tree : List Qualifier}

@@ -1,5 +1,5 @@
 -- What a list of tokens is where more room is allowed and chains may be longer: by its tree, whatever the number of all tokens.
-use Rattle.std.proofs.Common.{◌≡◌, ℕ, zero, suc, ◌+◌, ◌<◌, ◌≤◌, ◌⊎◌, Bool, Option, List, [], ◌∷◌, length, refl, arith}
+use Rattle.std.proofs.Common.{◌≡◌, ℕ, suc, ◌<◌, ◌≤◌, Bool, Option, List, ◌∷◌, length, refl, arith}
 use Rattle.c_lex.specs.declared.token.Token.{Token}
 use Rattle.c_ast.specs.declared.words.Qualifier.{Qualifier}
 use Rattle.c_ast.specs.declared.expression.Expr.{Expr}
@@ -24,12 +24,11 @@ use Rattle.c_ast.specs.declared.declaration.External.{External}
 use Rattle.c_ast.specs.declared.statement.Stmt.{Stmt}
 use Rattle.c_ast.specs.declared.statement.ForStart.{ForStart}
 use Rattle.c_ast.specs.declared.statement.BlockItem.{BlockItem}
-use Rattle.c_parser.specs.Names.{Names, nothing}
+use Rattle.c_parser.specs.Names.{Names}
 use Rattle.c_parser.specs.Owns.{Own}
 use Rattle.c_parser.specs.Types.{Typed}
-use Rattle.c_parser.specs.Grammar as g
-use Rattle.c_parser.specs.Grammar.{Part, Primary, Postfix, Unary, Level, Cond, Assign, Comma, AreQualifiers, ArePointers, IsExpr, AreLinks, AreOthers, ArePostfix, AreArguments, IsTypeNamed, IsAbstract, AreSizes, IsSize, AreSpecs, AreSpecifiers, IsStruct, AreMembers, IsMember, AreDeclarators, IsEnum, AreEnumerators, IsEnumerator, IsDeclarator, IsDirect, AreSuffixes, AreParams, IsParam, IsInit, AreInits, IsInitDeclarator, AreInitDeclarators, IsDecl, IsOptional, IsForStart, IsTest, IsStmt, AreItems, IsExternal, AreExternals, StartsTypeInParens, IsVoidAlone}
-use Rattle.c_parser.specs.Nesting.{Bounds, Stands, Follows, qualifiers_stand, pointers_stand, expr_stands, links_stand, others_stand, listed_stand, postfix_stand, arguments_stand, type_stands, abstract_stands, sizes_stand, size_stands, specs_stand, specifiers_stand, struct_stands, members_stand, member_stands, declarators_stand, enum_stands, enumerators_stand, enumerator_stands, declarator_stands, direct_stands, suffixes_stand, params_stand, param_stands, init_stands, inits_stand, init_declarator_stands, init_declarators_stand, decl_stands, optional_stands, for_start_stands, test_stands, stmt_stands, items_stand, external_stands, externals_stand}
+use Rattle.c_parser.specs.Grammar.{Part, AreQualifiers, ArePointers, IsExpr, AreLinks, AreOthers, ArePostfix, AreArguments, IsTypeNamed, IsAbstract, AreSizes, IsSize, AreSpecs, AreSpecifiers, IsStruct, AreMembers, IsMember, AreDeclarators, IsEnum, AreEnumerators, IsEnumerator, IsDeclarator, IsDirect, AreSuffixes, AreParams, IsParam, IsInit, AreInits, IsInitDeclarator, AreInitDeclarators, IsDecl, IsOptional, IsForStart, IsTest, IsStmt, AreItems, IsExternal, AreExternals}
+use Rattle.c_parser.specs.Nesting.{Bounds, qualifiers_stand, pointers_stand, expr_stands, links_stand, others_stand, listed_stand, postfix_stand, arguments_stand, type_stands, abstract_stands, sizes_stand, size_stands, specs_stand, specifiers_stand, struct_stands, members_stand, member_stands, declarators_stand, enum_stands, enumerators_stand, enumerator_stands, declarator_stands, direct_stands, suffixes_stand, params_stand, param_stands, init_stands, inits_stand, init_declarator_stands, init_declarators_stand, decl_stands, optional_stands, for_start_stands, test_stands, stmt_stands, items_stand, external_stands, externals_stand}
 use Rattle.c_parser.proofs.Late.{raised, raised_is}
 
 -- More room by `spare`, and chains of `wide` operators in place of `chain` ones. What stands beyond the first limits may only be late.

@@ -1,5 +1,5 @@
 -- An expression is read, whatever comes behind it that doesn't go on with it, or a late token stands too deep or too far in its chain.
-use Rattle.std.proofs.Common.{◌≡◌, ℕ, zero, suc, ◌+◌, ◌-◌, ◌<◌, ◌≤◌, ◌++◌, if◌then◌else◌, ◌&&◌, inl, inr, Bool, true, false, cond, Option, Some, None, Ok, Err, List, [], ◌∷◌, length, refl, sym, ap, ◌∙◌, subst, append_assoc, append-nil, arith}
+use Rattle.std.proofs.Common.{◌≡◌, ℕ, zero, suc, ◌+◌, ◌<◌, ◌≤◌, ◌++◌, if◌then◌else◌, ◌&&◌, inl, inr, Bool, true, false, Option, Some, None, Ok, Err, List, [], ◌∷◌, length, refl, sym, ap, ◌∙◌, subst, append_assoc, append-nil, arith}
 use denote.Enum.Bare.{true_same}
 use Rattle.c_lex.specs.declared.token.Token.{Token}
 use Rattle.c_lex.specs.declared.token.TokenKind.TheVariants as kind
@@ -8,7 +8,6 @@ use Rattle.c_lex.specs.declared.token.Keyword.TheVariants as keyword
 use Rattle.c_lex.specs.declared.token.Mark.{Mark}
 use Rattle.c_lex.specs.declared.token.Mark.TheVariants as mark
 use Rattle.c_lex.specs.contracts.token.Mark as mark_contract
-use Rattle.c_ast.specs.declared.words.Name.{Name}
 use Rattle.c_ast.specs.declared.words.BinaryOp.{BinaryOp}
 use Rattle.c_ast.specs.declared.words.AssignOp.{AssignOp}
 use Rattle.c_ast.specs.declared.words.PrefixOp.{PrefixOp}
@@ -34,7 +33,7 @@ use Rattle.c_parser.specs.Inner.{Inner, part_of}
 use Rattle.c_parser.specs.ReadingExpr.{token_expr, front_expr, choose, or_else, sees_type_in_parens, sees_type}
 use Rattle.c_parser.specs.ReadingExpr as reading
 use Rattle.c_parser.proofs.Late.{Meets, same, stopped, on, on_read, ◌▸◌}
-use Rattle.c_parser.proofs.Laws.{TakesSpecs, Complete, IsTypeInParens, at_state, is_keyword_at, sees_postfix, is_postfix, EndsCond, EndsAssign, EndsComma, EndsUnnamed, Ends, in_parens_stands}
+use Rattle.c_parser.proofs.Laws.{Complete, IsTypeInParens, at_state, is_keyword_at, sees_postfix, is_postfix, EndsCond, EndsAssign, EndsComma, Ends, in_parens_stands}
 use Rattle.c_parser.proofs.Extends.{expr_extends}
 use Rattle.c_parser.proofs.ExprFound.{found}
 use Rattle.c_parser.proofs.ExprStarts.{sees_no_type, starts_type_of}

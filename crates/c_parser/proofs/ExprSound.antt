@@ -1,5 +1,5 @@
 -- What is read as an expression is one.
-use Rattle.std.proofs.Common.{append_assoc, append-nil, if◌then◌else◌, ◌≡◌, ℕ, zero, suc, ◌+◌, ◌≤◌, ◌++◌, true, false, cond, nat_eq, Option, Some, None, Ok, Err, List, [], ◌∷◌, length, refl, sym, ap, ◌∙◌, subst, inl, inr, arith}
+use Rattle.std.proofs.Common.{append_assoc, append-nil, if◌then◌else◌, ◌≡◌, ℕ, zero, suc, ◌≤◌, ◌++◌, true, false, cond, nat_eq, Option, Some, None, Ok, Err, List, [], ◌∷◌, length, refl, sym, ap, ◌∙◌, subst, inl, inr, arith}
 use Rattle.std.proofs.lemmas.Bool.Decides.{Decides-eqb}
 use Rattle.c_lex.specs.declared.token.Token.{Token}
 use Rattle.c_lex.specs.declared.token.TokenKind.{TokenKind}

@@ -1,8 +1,8 @@
 -- What is read is what is there, or the reader stops at a token that stands too deep, which is one of the last ones.
-use Rattle.std.proofs.Common.{◌≡◌, ℕ, zero, suc, ◌+◌, arith, ◌≤◌, ◌⊎◌, inl, inr, Result, Ok, Err, List, [], ◌∷◌, length, refl, sym, ap, ◌∙◌}
+use Rattle.std.proofs.Common.{◌≡◌, ℕ, zero, suc, ◌+◌, arith, ◌≤◌, ◌⊎◌, inl, inr, Ok, Err, List, ◌∷◌, length, ap, ◌∙◌}
 use Rattle.c_lex.specs.declared.token.Token.{Token}
 use Rattle.c_parser.specs.Words.{number_of}
-use Rattle.c_parser.specs.Reading.{State, Fault, TooNested, Outcome, ◌>>=◌}
+use Rattle.c_parser.specs.Reading.{TooNested, Outcome, ◌>>=◌}
 
 -- the reader stops at a token that stands too deep, one of the last `later` ones
 pub record IsLate (total later : ℕ) {A : Type 0} (o : Outcome A) : Type 0 where

@@ -1,4 +1,12 @@
 pub mod Laws
+pub mod Higher
+pub mod HigherExpr
+pub mod HigherSpecs
+pub mod HigherDecl
+pub mod HigherLevels
+pub mod HigherStmt
+pub mod HigherUnit
+pub mod CauseLaws
 pub mod Extends
 pub mod DeclaratorFound
 pub mod DeclaratorSound

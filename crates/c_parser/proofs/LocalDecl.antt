@@ -1,36 +1,32 @@
 -- What a reader of declarators does depends only on the tokens up to where it stops.
-use Rattle.std.proofs.Common.{◌≡◌, ℕ, zero, suc, ◌+◌, ◌-◌, ◌≤◌, ◌&&◌, Bool, true, false, cond, nat_eq, Option, Some, None, Result, Ok, Err, List, [], ◌∷◌, ◌++◌, length, refl, sym, ap, ◌∙◌, subst, arith}
+use Rattle.std.proofs.Common.{◌≡◌, ℕ, zero, suc, ◌+◌, ◌-◌, ◌≤◌, Bool, true, false, cond, nat_eq, Option, Some, None, Ok, Err, List, [], ◌∷◌, ◌++◌, length, refl, sym, ap, arith}
 use Rattle.std.proofs.Math.Dec.{eqb-suc-zero}
 use Rattle.c_lex.specs.declared.token.Token.{Token}
 use Rattle.c_lex.specs.declared.token.TokenKind.TheVariants as kind
 use Rattle.c_lex.specs.declared.token.Keyword.TheVariants as keyword
-use Rattle.c_lex.specs.declared.token.Mark.{Mark}
 use Rattle.c_lex.specs.declared.token.Mark.TheVariants as mark
 use Rattle.c_ast.specs.declared.words.Qualifier.{Qualifier}
 use Rattle.c_ast.specs.declared.expression.Expr.{Expr}
-use Rattle.c_ast.specs.declared.declaration.Declarator.{Declarator, roll-Declarator}
+use Rattle.c_ast.specs.declared.declaration.Declarator.{roll-Declarator}
 use Rattle.c_ast.specs.declared.declaration.Direct.TheVariants as direct
 use Rattle.c_ast.specs.declared.declaration.DirectSuffix.{DirectSuffix}
 use Rattle.c_ast.specs.declared.declaration.DirectSuffix.TheVariants as suffix
 use Rattle.c_ast.specs.declared.declaration.Param.{Param}
 use Rattle.c_ast.specs.declared.declaration.Param.TheVariants as param
-use Rattle.c_ast.specs.declared.declaration.Abstract.{Abstract}
 use Rattle.c_parser.specs.declared.grammar.Extent.TheVariants as extent
 use Rattle.c_parser.specs.declared.grammar.ReadSpecs.{ReadSpecs}
-use Rattle.c_parser.specs.declared.grammar.ReadDeclarator.{ReadDeclarator}
-use Rattle.c_parser.specs.declared.declarators.ReadDirect.{ReadDirect}
 use Rattle.c_parser.specs.declared.grammar.ReadParam.{ReadParam}
 use Rattle.c_parser.specs.declared.grammar.ReadParam.TheVariants.{Named, Unnamed}
 use Rattle.c_parser.specs.Names.{Names, declared}
-use Rattle.c_parser.specs.Words.{number_of, qualifier_of}
+use Rattle.c_parser.specs.Words.{qualifier_of}
 use Rattle.c_parser.specs.Owns.{Own, Open, settled}
 use Rattle.c_parser.specs.Grammar.{behind_pointers}
-use Rattle.c_parser.specs.Reading.{State, Fault, Unexpected, TooNested, Outcome, Reader, ◌>>=◌, is_mark, sees_mark, sees_keyword, tail, behind, here, expect_mark}
+use Rattle.c_parser.specs.Reading.{State, TooNested, Outcome, Reader, ◌>>=◌, is_mark, sees_mark, sees_keyword, behind, here, expect_mark}
 use Rattle.c_parser.specs.ReadingExpr.{choose}
 use Rattle.c_parser.specs.ReadingDecl.{too_deep, qualifiers, at_rest, pointers, size, param_of, parameter, parameters, added, restored, function, suffixes, direct_at, declarator_from, declarator, sizes, unnamed_from, stars, unnamed, are_bare, starts_direct, param_declarator}
 use Rattle.c_parser.specs.Inner.{Inner}
 use Rattle.c_parser.proofs.ExprFound.{keyword_is}
-use Rattle.c_parser.proofs.Agrees.{Sides, total_one, total_other, state, Both, Alike, on, past, IsPast, goes, IsTaken, either, scoped, bind, given, wider, weak, falling, equal, numbered, unexpected, nested, taken, passed, stepped, renamed, judged, tested, expected, name_next, forked, counted, sized, taken_bind, tail_within}
+use Rattle.c_parser.proofs.Agrees.{Sides, total_one, total_other, state, Both, Alike, on, past, goes, IsTaken, either, scoped, bind, given, wider, weak, falling, equal, numbered, unexpected, nested, taken, passed, stepped, renamed, judged, tested, expected, name_next, forked, counted, sized, taken_bind, tail_within}
 use Rattle.c_parser.proofs.LocalExpr.{BothInner}
 
 -- ---- pointers

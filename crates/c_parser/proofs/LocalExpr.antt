@@ -1,5 +1,5 @@
 -- What a reader of expressions does depends only on the tokens up to where it stops.
-use Rattle.std.proofs.Common.{◌≡◌, ℕ, zero, suc, ◌+◌, ◌-◌, ◌≤◌, ◌&&◌, Bool, true, false, cond, Option, Some, None, Result, Ok, Err, List, [], ◌∷◌, ◌++◌, length, refl, sym, ap, ◌∙◌, subst, arith}
+use Rattle.std.proofs.Common.{◌≡◌, ℕ, zero, suc, ◌-◌, ◌≤◌, ◌&&◌, Bool, true, false, cond, Option, Some, None, Ok, List, [], ◌∷◌, ◌++◌, length, refl, sym, ap, subst, arith}
 use Rattle.c_lex.specs.declared.token.Token.{Token}
 use Rattle.c_lex.specs.declared.token.TokenKind.{TokenKind}
 use Rattle.c_lex.specs.declared.token.TokenKind.TheVariants as kind
@@ -12,19 +12,18 @@ use Rattle.c_ast.specs.declared.expression.Expr.TheVariants as expr
 use Rattle.c_ast.specs.declared.expression.Link.{Link}
 use Rattle.c_ast.specs.declared.expression.PostfixOp.{PostfixOp}
 use Rattle.c_ast.specs.declared.expression.PostfixOp.TheVariants as after
-use Rattle.c_ast.specs.declared.declaration.Abstract.{Abstract}
-use Rattle.c_ast.specs.declared.declaration.TypeName.{TypeName, roll-TypeName}
+use Rattle.c_ast.specs.declared.declaration.TypeName.{roll-TypeName}
 use Rattle.c_parser.specs.declared.grammar.Extent.{Extent}
 use Rattle.c_parser.specs.declared.grammar.Extent.TheVariants as extent
 use Rattle.c_parser.specs.Names.{Names}
 use Rattle.c_parser.specs.Words.{IsMark, number_of, prefix_of}
 use Rattle.c_parser.specs.Grammar.{postfixed, linked, listed}
-use Rattle.c_parser.specs.Reading.{State, Fault, Unexpected, TooNested, Outcome, Reader, ◌>>=◌, is_mark, is_keyword, sees_mark, sees_keyword, tail, behind, here, expect_mark, kind_at}
+use Rattle.c_parser.specs.Reading.{State, Outcome, Reader, ◌>>=◌, is_mark, is_keyword, sees_mark, sees_keyword, expect_mark, kind_at}
 use Rattle.c_parser.specs.ReadingExpr.{choose, or_else, token_expr, front_expr, starts_type, sees_type, sees_type_in_parens, paren, primary, index, arguments, call, dot, arrow, postfix_by, postfix_of, postfix_at, postfixes, postfix, prefix_at, prefixed, sizeof, type_in_parens, cast, unary, operator_in, links, level_from, cond_from, assign_at, assign, others, comma, expr_of}
 use Rattle.c_parser.specs.ReadingExpr as reading
 use Rattle.c_parser.specs.Inner.{Inner}
 use Rattle.c_parser.proofs.ExprFound.{mark_is}
-use Rattle.c_parser.proofs.Agrees.{Sides, total_one, total_other, state, Both, IsPast, goes, IsTaken, either, scoped, found_there, bind, given, wider, weak, equal, picked, numbered, unexpected, nested, taken, passed, stepped, judged, tested, chosen, expected, expected_first, same_number, name_next, forked, counted, sized, past_bind, taken_bind}
+use Rattle.c_parser.proofs.Agrees.{Sides, total_one, total_other, state, Both, IsPast, goes, IsTaken, found_there, bind, given, wider, weak, equal, picked, numbered, unexpected, nested, taken, passed, stepped, judged, tested, chosen, expected, expected_first, same_number, name_next, forked, counted, sized, past_bind, taken_bind}
 
 -- what a level does at the last token in front
 pub record Takes (from : ℕ) (a : List Token) (room : ℕ) (inner : Inner) : Type 0 where

@@ -1,15 +1,12 @@
 -- What the readers of a level do depends only on the tokens up to where they stop.
-use Rattle.std.proofs.Common.{◌≡◌, ℕ, zero, suc, List, refl, ap}
-use Rattle.c_lex.specs.declared.token.Token.{Token}
-use Rattle.c_parser.specs.declared.grammar.Extent.TheVariants as extent
+use Rattle.std.proofs.Common.{ℕ, zero, suc, refl}
 use Rattle.c_parser.specs.declared.grammar.ReadParam.TheVariants.{Unnamed}
 use Rattle.c_parser.specs.Inner.{Inner}
-use Rattle.c_parser.specs.Reading.{State}
 use Rattle.c_parser.specs.ReadingExpr.{expr_of}
 use Rattle.c_parser.specs.ReadingDecl.{too_deep}
 use Rattle.c_parser.specs.Levels.{no_level, level_of, nothing_unnamed, readers}
 use Rattle.c_parser.proofs.Agrees.{Sides, total_one, total_other, given, nested, weak}
-use Rattle.c_parser.proofs.LocalExpr.{BothInner, Takes, expr_both, type_both, type_last, unary_last}
+use Rattle.c_parser.proofs.LocalExpr.{BothInner, expr_both, type_both, type_last, unary_last}
 use Rattle.c_parser.proofs.LocalSpecs.{specs_both, specs_last}
 use Rattle.c_parser.proofs.LocalDecl.{declarator_both, unnamed_both, param_both}
 

@@ -1,34 +1,29 @@
 -- What a reader of specifiers does depends only on the tokens up to where it stops.
-use Rattle.std.proofs.Common.{◌≡◌, ℕ, zero, suc, ◌+◌, ◌-◌, ◌≤◌, ◌&&◌, ◌||◌, not, Bool, true, false, cond, nat_eq, Option, Some, None, Result, Ok, Err, List, [], ◌∷◌, ◌++◌, length, refl, sym, ap, ◌∙◌, subst, arith}
+use Rattle.std.proofs.Common.{◌≡◌, ℕ, zero, suc, ◌-◌, ◌≤◌, ◌&&◌, ◌||◌, not, Bool, false, cond, nat_eq, Option, Some, None, List, [], ◌∷◌, ◌++◌, length, ap, arith}
 use Rattle.c_lex.specs.declared.token.Token.{Token}
 use Rattle.c_lex.specs.declared.token.TokenKind.{TokenKind}
 use Rattle.c_lex.specs.declared.token.TokenKind.TheVariants as kind
 use Rattle.c_lex.specs.declared.token.Keyword.TheVariants as keyword
-use Rattle.c_lex.specs.declared.token.Mark.{Mark}
 use Rattle.c_lex.specs.declared.token.Mark.TheVariants as mark
 use Rattle.c_ast.specs.declared.words.Name.{Name}
-use Rattle.c_ast.specs.declared.words.TypeWord.{TypeWord}
 use Rattle.c_ast.specs.declared.words.TypeWord.TheVariants as word
 use Rattle.c_ast.specs.declared.expression.Expr.{Expr}
 use Rattle.c_ast.specs.declared.declaration.Specifier.{Specifier}
 use Rattle.c_ast.specs.declared.declaration.Specifier.TheVariants as specifier
-use Rattle.c_ast.specs.declared.declaration.StructSpec.{StructSpec}
 use Rattle.c_ast.specs.declared.declaration.StructSpec.TheVariants as a_struct
 use Rattle.c_ast.specs.declared.declaration.Member.{Member, roll-Member}
-use Rattle.c_ast.specs.declared.declaration.EnumSpec.{EnumSpec}
 use Rattle.c_ast.specs.declared.declaration.EnumSpec.TheVariants as an_enum
 use Rattle.c_ast.specs.declared.declaration.Enumerator.{Enumerator}
 use Rattle.c_ast.specs.declared.declaration.Declarator.{Declarator}
 use Rattle.c_parser.specs.declared.grammar.Extent.TheVariants as extent
-use Rattle.c_parser.specs.declared.grammar.ReadSpecs.{ReadSpecs}
 use Rattle.c_parser.specs.Names.{Names, is_type_in, declared, name_at}
 use Rattle.c_parser.specs.Words.{number_of, storage_of, qualifier_of, word_of}
 use Rattle.c_parser.specs.Types.{Typed, Untyped, Words, Whole, declares_types}
-use Rattle.c_parser.specs.Reading.{State, Fault, Unexpected, TooNested, Outcome, Reader, ◌>>=◌, is_mark, is_keyword, is_name, sees_mark, sees_keyword, tail, behind, here, expect_mark, name_at_front}
+use Rattle.c_parser.specs.Reading.{is_keyword, is_name, name_at_front}
 use Rattle.c_parser.specs.ReadingExpr.{choose}
-use Rattle.c_parser.specs.ReadingDecl.{too_deep, taken_word, is_untyped, members_declared, member, members, struct_body, struct_spec, enumerator, enumerators, enum_body, enum_spec, Saying, SaysStorage, SaysQualifier, SaysWord, SaysStruct, SaysEnum, SaysName, SaysNothing, saying_type, saying_of, ended_specs, GoesOn, by_saying, specifiers, specs}
+use Rattle.c_parser.specs.ReadingDecl.{too_deep, taken_word, is_untyped, members_declared, member, members, struct_body, struct_spec, enumerator, enumerators, enum_body, enum_spec, Saying, SaysStorage, SaysQualifier, SaysWord, SaysStruct, SaysEnum, SaysName, SaysNothing, saying_of, ended_specs, GoesOn, by_saying, specifiers, specs}
 use Rattle.c_parser.specs.Inner.{Inner}
-use Rattle.c_parser.proofs.Agrees.{Sides, total_one, total_other, state, Both, IsPast, goes, either, scoped, bind, given, wider, weak, falling, mixed, picked, numbered, unexpected, nested, taken, passed, stepped, renamed, tested, chosen, expected, same_number, same_name, name_next, counted, sized}
+use Rattle.c_parser.proofs.Agrees.{Sides, total_one, total_other, state, Both, IsPast, either, bind, given, wider, weak, falling, mixed, picked, numbered, unexpected, nested, taken, passed, stepped, renamed, tested, chosen, expected, same_number, same_name, name_next, counted, sized}
 use Rattle.c_parser.proofs.LocalExpr.{BothInner}
 
 -- what the next token says, by its kind and its number

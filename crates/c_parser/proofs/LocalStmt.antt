@@ -1,31 +1,26 @@
 -- What a reader of declarations or statements does depends only on the tokens up to where it stops.
-use Rattle.std.proofs.Common.{◌≡◌, ℕ, zero, suc, ◌+◌, ◌-◌, ◌≤◌, ◌&&◌, not, Bool, true, false, cond, nat_eq, Option, Some, None, Result, Ok, Err, List, [], ◌∷◌, ◌++◌, length, drop, refl, sym, ap, ◌∙◌, subst, arith}
+use Rattle.std.proofs.Common.{◌≡◌, ℕ, zero, suc, ◌-◌, ◌≤◌, not, Bool, true, false, cond, nat_eq, Option, Some, None, Ok, Err, List, [], ◌∷◌, ◌++◌, length, drop, refl, arith}
 use Rattle.c_lex.specs.declared.token.Token.{Token}
 use Rattle.c_lex.specs.declared.token.Keyword.{Keyword}
 use Rattle.c_lex.specs.declared.token.Keyword.TheVariants as keyword
 use Rattle.c_lex.specs.declared.token.Mark.{Mark}
 use Rattle.c_lex.specs.declared.token.Mark.TheVariants as mark
-use Rattle.c_ast.specs.declared.expression.Expr.{Expr}
 use Rattle.c_ast.specs.declared.declaration.Init.{Init}
 use Rattle.c_ast.specs.declared.declaration.Init.TheVariants as an_init
 use Rattle.c_ast.specs.declared.declaration.InitDeclarator.{InitDeclarator}
-use Rattle.c_ast.specs.declared.declaration.Decl.{Decl}
 use Rattle.c_ast.specs.declared.statement.Stmt.{Stmt}
 use Rattle.c_ast.specs.declared.statement.Stmt.TheVariants as stmt
-use Rattle.c_ast.specs.declared.statement.ForStart.{ForStart}
 use Rattle.c_ast.specs.declared.statement.ForStart.TheVariants as start
 use Rattle.c_ast.specs.declared.statement.BlockItem.{BlockItem}
 use Rattle.c_ast.specs.declared.statement.BlockItem.TheVariants as an_item
 use Rattle.c_parser.specs.declared.grammar.Extent.TheVariants as extent
 use Rattle.c_parser.specs.declared.grammar.ReadSpecs.{ReadSpecs}
 use Rattle.c_parser.specs.declared.grammar.ReadDeclarator.{ReadDeclarator}
-use Rattle.c_parser.specs.declared.statements.Head.{Head}
 use Rattle.c_parser.specs.Names.{Names, declared}
-use Rattle.c_parser.specs.Reading.{State, Fault, Unexpected, TooNested, Outcome, Reader, ◌>>=◌, is_mark, sees_mark, sees_keyword, tail, behind, here, expect_mark}
+use Rattle.c_parser.specs.Reading.{State, Unexpected, TooNested, Outcome, Reader, ◌>>=◌, is_mark, sees_mark, sees_keyword, behind, here, expect_mark}
 use Rattle.c_parser.specs.ReadingExpr.{sees_type}
 use Rattle.c_parser.specs.ReadingDecl.{too_deep}
-use Rattle.c_parser.specs.Levels.{readers}
-use Rattle.c_parser.specs.ReadingStmt.{left_to, inits_go_on, behind_comma, inits_end, more_inits, inits, init, initialised, init_declarator, more_declared, all_declared, decl_from, decl_behind, decl, optional, bracketed, for_start, for_head, if_with, while_with, switch_with, do_with, for_with, case_with, default_with, word_alone, return_with, express_with, keyword_at, sees_simple, cramped, by_keyword, simple, item, items, block_with, statement}
+use Rattle.c_parser.specs.ReadingStmt.{left_to, behind_comma, inits_end, more_inits, inits, init, initialised, init_declarator, more_declared, all_declared, decl_from, decl_behind, decl, optional, bracketed, for_start, for_head, if_with, while_with, switch_with, do_with, for_with, case_with, default_with, word_alone, return_with, express_with, keyword_at, sees_simple, cramped, by_keyword, simple, item, items, block_with, statement}
 use Rattle.c_parser.proofs.Agrees.{Sides, total_one, total_other, state, Both, IsPast, either, scoped, bind, given, wider, weak, falling, equal, picked, numbered, unexpected, nested, taken, passed, stepped, renamed, judged, tested, expected, expected_first, expected_word, forked, counted, sized}
 use Rattle.c_parser.proofs.LocalLevels.{readers_both}
 
@@ -44,7 +39,7 @@ cramped_both w n m {A = A} =
 
 -- ---- initialisers
 
-behind_either : {A : Type 0} (b : Bool) (s s' : State) (f : State → Outcome A) → cond b (f s) (f s') ≡ f (cond b s s')
+pub behind_either : {A : Type 0} (b : Bool) (s s' : State) (f : State → Outcome A) → cond b (f s) (f s') ≡ f (cond b s s')
 behind_either true s s' f = refl
 behind_either false s s' f = refl
 

@@ -1,6 +1,6 @@
 -- What is read as a unit depends only on the tokens up to where the reader stops: a refusal comes on every other list of tokens that
 -- has the same ones up to the token that it tells.
-use Rattle.std.proofs.Common.{◌≡◌, ℕ, zero, suc, ◌+◌, ◌-◌, ◌≤◌, ◌⊎◌, inl, inr, Bool, true, false, cond, Option, Some, None, Result, Ok, Err, List, [], ◌∷◌, ◌++◌, length, drop, refl, sym, ap, ◌∙◌, subst, length-append, arith}
+use Rattle.std.proofs.Common.{◌≡◌, ℕ, zero, suc, ◌-◌, ◌≤◌, ◌⊎◌, inl, inr, Bool, true, false, cond, Ok, Err, List, [], ◌∷◌, ◌++◌, length, refl, sym, ap, subst, length-append, arith}
 use Rattle.c_lex.specs.declared.token.Token.{Token}
 use Rattle.c_lex.specs.declared.token.Mark.TheVariants as mark
 use Rattle.c_ast.specs.declared.declaration.External.{External}
@@ -8,26 +8,25 @@ use Rattle.c_ast.specs.declared.declaration.External.TheVariants as an_external
 use Rattle.c_ast.specs.declared.declaration.Unit.{Unit as AUnit}
 use Rattle.c_parser.specs.declared.grammar.ReadSpecs.{ReadSpecs}
 use Rattle.c_parser.specs.declared.grammar.ReadDeclarator.{ReadDeclarator}
-use Rattle.c_parser.specs.Names.{Names, declared, nothing}
+use Rattle.c_parser.specs.Names.{declared, nothing}
 use Rattle.c_parser.specs.Owns.{own_names}
-use Rattle.c_parser.specs.Reading.{State, Fault, Unexpected, TooNested, Outcome, Reader, ◌>>=◌, sees_mark, tail, behind, here}
-use Rattle.c_parser.specs.Levels.{readers}
+use Rattle.c_parser.specs.Reading.{State, Fault, Unexpected, Outcome, Reader, ◌>>=◌, here}
 use Rattle.c_parser.specs.ReadingStmt.{left_to, statement, items, decl_from, external_behind, external, is_end, externals, unit}
 use Rattle.c_parser.specs.ReadingStmt as reading
-use Rattle.c_parser.proofs.Agrees.{fault_at, Sides, total_one, total_other, state, IsPast, stops, goes, Alike, same, on, past, Both, scoped, bind, given, wider, weak, falling, equal, numbered, unexpected, passed, renamed, judged, tested, counted, sized}
+use Rattle.c_parser.proofs.Agrees.{fault_at, Sides, total_one, total_other, state, IsPast, stops, goes, Alike, same, on, past, Both, scoped, bind, given, wider, falling, equal, numbered, unexpected, passed, renamed, judged, tested, counted, sized}
 use Rattle.c_parser.proofs.LocalLevels.{readers_both}
 use Rattle.c_parser.proofs.LocalStmt.{outside, decl_from_both, statement_both, items_both}
 
 -- the end, behind which nothing is read
-ended : State
+unfoldable pub ended : State
 ended = state [] []
 
 -- all that was read, at the end
-abbrev whole : {A : Type 0} → Outcome A → Outcome (A × State)
+abbrev pub whole : {A : Type 0} → Outcome A → Outcome (A × State)
 whole o = o >>= λ x. Ok (x, ended)
 
 -- all to the end, as a reader
-external_list : ℕ → ℕ → ℕ → ℕ → List External → Reader (List External)
+unfoldable pub external_list : ℕ → ℕ → ℕ → ℕ → List External → Reader (List External)
 external_list total most room count front s = whole (externals total most room count front s)
 
 at_end : {w : Sides} {n m : ℕ} {A : Type 0} (x : A) → Both w n m (λ s. Ok (x, ended)) (λ s. Ok (x, ended))
@@ -38,11 +37,11 @@ at_end x = record {
   alike = λ names t ts le. past (goes x ended (omega arith)) (goes x ended (omega arith));
 }
 
-whole_stop : {A : Type 0} (b : Bool) (x : A) (e : Fault) → cond b (Ok (x, ended)) (Err e) ≡ whole (cond b (Ok x) (Err e))
+pub whole_stop : {A : Type 0} (b : Bool) (x : A) (e : Fault) → cond b (Ok (x, ended)) (Err e) ≡ whole (cond b (Ok x) (Err e))
 whole_stop true x e = refl
 whole_stop false x e = refl
 
-whole_go : {A B : Type 0} (b : Bool) (x : A) (o : Outcome B) (f : B → Outcome A) → cond b (Ok (x, ended)) (o >>= λ y. whole (f y)) ≡ whole (cond b (Ok x) (o >>= f))
+pub whole_go : {A B : Type 0} (b : Bool) (x : A) (o : Outcome B) (f : B → Outcome A) → cond b (Ok (x, ended)) (o >>= λ y. whole (f y)) ≡ whole (cond b (Ok x) (o >>= f))
 whole_go true x o f = refl
 whole_go false x (Ok y) f = refl
 whole_go false x (Err e) f = refl
@@ -108,7 +107,7 @@ split (more_same {t = t} d) = elim (split d) [
 
 -- ---- refusals
 
-err_same : {A : Type 0} {e f : Fault} → ◌≡◌ {A = Outcome A} (Err e) (Err f) → e ≡ f
+pub err_same : {A : Type 0} {e f : Fault} → ◌≡◌ {A = Outcome A} (Err e) (Err f) → e ≡ f
 err_same h = cc
 
 not_past : {from len : ℕ} {A : Type 0} {o : Outcome (A × State)} → IsPast from len o → (fault : Fault) → o ≡ Err fault → suc (fault_at fault) ≤ from → ⊥

@@ -1,5 +1,5 @@
 -- What is read within the limits is there with another tail too, where more room is allowed, and all of it stands within the limits.
-use Rattle.std.proofs.Common.{◌≡◌, ◌≢◌, ℕ, zero, suc, ◌+◌, ◌<◌, ◌≤◌, ◌⊎◌, Bool, Option, List, [], ◌∷◌, length, sym, ◌∙◌, ap, arith}
+use Rattle.std.proofs.Common.{◌≡◌, ◌≢◌, ℕ, suc, ◌+◌, ◌<◌, ◌≤◌, Bool, Option, List, [], ◌∷◌, length, sym, ◌∙◌, ap, arith}
 use Rattle.c_lex.specs.declared.token.TokenKind.{TokenKind}
 use Rattle.c_lex.specs.declared.token.TokenKind.TheVariants as kind
 use Rattle.c_lex.specs.declared.token.Mark.TheVariants as mark
@@ -33,9 +33,8 @@ use Rattle.c_parser.specs.Owns.{Own}
 use Rattle.c_parser.specs.Types.{Typed}
 use Rattle.c_parser.specs.Grammar as g
 use Rattle.c_parser.specs.Grammar.{Part, Primary, Postfix, Unary, Level, Cond, Assign, Comma, AreQualifiers, ArePointers, IsExpr, AreLinks, AreOthers, ArePostfix, AreArguments, IsTypeNamed, IsAbstract, AreSizes, IsSize, AreSpecs, AreSpecifiers, IsStruct, AreMembers, IsMember, AreDeclarators, IsEnum, AreEnumerators, IsEnumerator, IsDeclarator, IsDirect, AreSuffixes, AreParams, IsParam, IsInit, AreInits, IsInitDeclarator, AreInitDeclarators, IsDecl, IsOptional, IsForStart, IsTest, IsStmt, AreItems, IsExternal, AreExternals, StartsTypeInParens, IsVoidAlone}
-use Rattle.c_parser.specs.Nesting.{Bounds, Stands, Follows, qualifiers_stand, pointers_stand, expr_stands, links_stand, others_stand, listed_stand, postfix_stand, arguments_stand, type_stands, abstract_stands, sizes_stand, size_stands, specs_stand, specifiers_stand, struct_stands, members_stand, member_stands, declarators_stand, enum_stands, enumerators_stand, enumerator_stands, declarator_stands, direct_stands, suffixes_stand, params_stand, param_stands, init_stands, inits_stand, init_declarator_stands, init_declarators_stand, decl_stands, optional_stands, for_start_stands, test_stands, stmt_stands, items_stand, external_stands, externals_stand}
-use Rattle.c_parser.proofs.Deep.{Deeper, bounds, Swapped, at_tail, more_swapped, joined, Moved, deep, none_left, early, fits, more_fits, empty_fits, QualifiersAt, PointersAt, ExprAt, LinksAt, OthersAt, ListedAt, PostfixAt, ArgumentsAt, TypeAt, AbstractAt, SizesAt, SizeAt, SpecsAt, SpecifiersAt, StructAt, MembersAt, MemberAt, DeclaratorsAt, EnumAt, EnumeratorsAt, EnumeratorAt, DeclaratorAt, DirectAt, SuffixesAt, ParamsAt, ParamAt, InitAt, InitsAt, InitDeclaratorAt, InitDeclaratorsAt, DeclAt, OptionalAt, ForStartAt, TestAt, StmtAt, ItemsAt, ExternalAt, ExternalsAt}
-use Rattle.c_parser.specs.Words.{IsMark, IsKeyword, prefix_of}
+use Rattle.c_parser.proofs.Deep.{Deeper, Swapped, at_tail, more_swapped, joined, Moved, deep, none_left, early, fits, more_fits, empty_fits, QualifiersAt, PointersAt, ExprAt, LinksAt, OthersAt, ListedAt, PostfixAt, ArgumentsAt, TypeAt, AbstractAt, SizesAt, SizeAt, SpecsAt, SpecifiersAt, StructAt, MembersAt, MemberAt, DeclaratorsAt, EnumAt, EnumeratorsAt, EnumeratorAt, DeclaratorAt, DirectAt, SuffixesAt, ParamsAt, ParamAt, InitAt, InitsAt, InitDeclaratorAt, InitDeclaratorsAt, DeclAt, OptionalAt, ForStartAt, TestAt, StmtAt, ItemsAt, ExternalAt, ExternalsAt}
+use Rattle.c_parser.specs.Words.{IsMark, prefix_of}
 use Rattle.c_parser.proofs.Extends.{expr_extends, links_extend, others_extend, postfix_extends, type_named_extends, declarator_extends, abstract_extends, param_extends, params_extend}
 use Rattle.c_parser.proofs.SpecsBegin.{specs_begin}
 

@@ -1,20 +1,16 @@
 -- Where the reading stops is the first token that no unit goes on with.
-use Rattle.std.proofs.Common.{◌≡◌, ℕ, zero, suc, ◌+◌, ◌<◌, ◌≤◌, ◌⊎◌, ◌++◌, inl, inr, Result, Ok, Err, List, [], ◌∷◌, length, take, drop, refl, sym, ap, subst, ◌∙◌, append_assoc, arith}
-use Rattle.std.specs.Prelude.{IfErr, IfSome, IfOk}
+use Rattle.std.proofs.Common.{◌≡◌, ℕ, zero, suc, ◌+◌, ◌<◌, ◌≤◌, ◌⊎◌, ◌++◌, inl, inr, Ok, Err, List, [], ◌∷◌, length, take, drop, refl, sym, ap, subst, ◌∙◌, append_assoc, arith}
 use Rattle.std.proofs.lemmas.List.{length-append, take-append-le}
 use Rattle.c_lex.specs.declared.token.Token.{Token}
 use Rattle.c_ast.specs.declared.declaration.Unit.{Unit as AUnit}
-use Rattle.c_ast.specs.declared.declaration.External.{External}
-use Rattle.c_parser.specs.declared.error.ParseError.{ParseError}
-use Rattle.c_parser.specs.declared.error.ParseError.TheVariants as error
 use Rattle.c_parser.specs.Names.{Names, nothing}
 use Rattle.c_parser.specs.Words.{number_of}
 use Rattle.c_parser.specs.Grammar.{AreExternals, ParsesWithin, Parses}
 use Rattle.c_parser.specs.Nesting.{Bounds, Begins, externals_stand}
-use Rattle.c_parser.specs.Refusals.{BeginsSome, GoesOn, GoesOnSomehow, IsRefused}
-use Rattle.c_parser.specs.Reading.{Fault, Unexpected, TooNested, Outcome, Gives}
+use Rattle.c_parser.specs.Refusals.{GoesOn, GoesOnSomehow, IsRefused}
+use Rattle.c_parser.specs.Reading.{Fault, Unexpected, TooNested, Outcome}
 use Rattle.c_parser.specs.ReadingStmt.{unit}
-use Rattle.c_parser.proofs.Late.{Meets, raised, raised_is}
+use Rattle.c_parser.proofs.Late.{raised_is}
 use Rattle.c_parser.proofs.Deep.{Deeper, bounds, Swapped, at_tail, more_swapped, ExternalsAt}
 use Rattle.c_parser.proofs.Viable.{Viable, fault_at}
 use Rattle.c_parser.proofs.LevelLaws.{readers_sound, readers_complete}
@@ -47,7 +43,7 @@ take_drop zero ts = refl
 take_drop (suc n) [] = refl
 take_drop (suc n) (t ∷ ts) = ap (λ us. t ∷ us) (take_drop n ts)
 
-taken_length : (n : ℕ) (ts : List Token) → n ≤ length ts → length (take n ts) ≡ n
+pub taken_length : (n : ℕ) (ts : List Token) → n ≤ length ts → length (take n ts) ≡ n
 taken_length zero ts less = refl
 taken_length (suc n) [] less = absurd (omega (arith, less))
 taken_length (suc n) (t ∷ ts) less = let x = taken_length n ts (omega (arith, less)) in omega (arith, x)
@@ -63,7 +59,7 @@ same_all zero ts = none_same
 same_all (suc k) [] = end_same
 same_all (suc k) (t ∷ ts) = more_same (same_all k ts)
 
-order : (a b : ℕ) → (a < b) ⊎ ((a ≡ b) ⊎ (b < a))
+pub order : (a b : ℕ) → (a < b) ⊎ ((a ≡ b) ⊎ (b < a))
 order zero zero = inr (inl refl)
 order zero (suc b) = inl (omega arith)
 order (suc a) zero = inr (inr (omega arith))

@@ -12,7 +12,7 @@ use Rattle.std.proofs.Math.Seq.{drop-append_seam, take-append_seam}
 use Rattle.indexmap.specs.IndexMap.{insert_entry}
 use Rattle.c_lex.specs.declared.token.Headers.{Headers}
 use Rattle.c_parser.specs.declared.scope.KnownName.{KnownName}
-use Rattle.c_parser.specs.Names.{Names, Known, of_known, is_type_in, is_type_of}
+use Rattle.c_parser.specs.Names.{Names, of_known, is_type_in, is_type_of}
 use Rattle.c_parser.specs.Meanings.{Entries, meaning_of, meaning_in, Agrees, Hide, known_of, IsScope, RestoresAll}
 
 pub known_append : (xs ys : List KnownName) → of_known (xs ++ ys) ≡ of_known ys ++ of_known xs

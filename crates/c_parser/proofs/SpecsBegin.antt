@@ -1,6 +1,6 @@
 -- What specifiers and declarators begin with, and that each part takes tokens.
-use Rattle.std.proofs.Common.{◌≡◌, ℕ, zero, suc, ◌<◌, ◌≤◌, Bool, true, false, Option, Some, None, Ok, Err, List, [], ◌∷◌, ◌++◌, length, refl, sym, ap, ◌∙◌, subst, arith}
-use denote.Enum.Bare.{sameb, true_same}
+use Rattle.std.proofs.Common.{◌≡◌, ℕ, ◌<◌, Bool, true, false, Some, Ok, List, ◌∷◌, length, refl, ap, ◌∙◌, arith}
+use denote.Enum.Bare.{true_same}
 use Rattle.c_lex.specs.declared.token.Token.{Token}
 use Rattle.c_lex.specs.declared.token.TokenKind.{TokenKind}
 use Rattle.c_lex.specs.declared.token.TokenKind.TheVariants as kind
@@ -23,12 +23,12 @@ use Rattle.c_ast.specs.declared.declaration.Declarator.{Declarator}
 use Rattle.c_ast.specs.declared.declaration.Direct.{Direct}
 use Rattle.c_parser.specs.Names.{Names}
 use Rattle.c_parser.specs.Owns.{Own}
-use Rattle.c_parser.specs.Words.{IsMark, IsKeyword, storage_of, qualifier_of, word_of}
-use Rattle.c_parser.specs.Types.{Typed, Untyped, Words, Whole, IsOneType}
+use Rattle.c_parser.specs.Words.{IsKeyword, storage_of, qualifier_of, word_of}
+use Rattle.c_parser.specs.Types.{Typed, IsOneType}
 use Rattle.c_parser.specs.Grammar.{ArePointers, no_pointers, more_pointers, AreSpecs, specs, AreSpecifiers, no_specifiers, storage, qualifier, word, struct_specifier, enum_specifier, typedef_name, IsStruct, struct_reference, struct_tagged, struct_untagged, AreMembers, one_member, more_members, IsMember, member, AreDeclarators, one_declarator, more_declarators, IsEnum, enum_reference, enum_tagged, enum_untagged, AreEnumerators, one_enumerator, last_enumerator, more_enumerators, IsEnumerator, enumerator, valued, IsDeclarator, declarator, IsDirect, direct_name, nested}
-use Rattle.c_parser.specs.Reading.{State, expect_mark, is_mark, same_mark, sees_mark, tail}
+use Rattle.c_parser.specs.Reading.{expect_mark, is_mark, same_mark, sees_mark, tail}
 use Rattle.c_parser.proofs.Laws.{at_state, is_keyword_at}
-use Rattle.c_parser.proofs.Extends.{Extends, expr_extends, specifiers_extend, members_extend, declarators_extend, enumerators_extend}
+use Rattle.c_parser.proofs.Extends.{expr_extends, specifiers_extend, members_extend, declarators_extend, enumerators_extend}
 use Rattle.c_parser.proofs.SpecsFound.{Stands}
 
 -- ---- tokens

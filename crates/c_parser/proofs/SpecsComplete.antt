@@ -22,7 +22,7 @@ use Rattle.c_parser.specs.Types.{AreOfType, Typed, Untyped, Words, Whole, with_w
 use Rattle.c_parser.specs.Grammar.{AreSpecs, specs as the_specs, AreSpecifiers, no_specifiers, storage, qualifier, word, struct_specifier, enum_specifier, typedef_name, IsStruct, struct_reference, struct_tagged, struct_untagged, IsEnum, enum_reference, enum_tagged, enum_untagged}
 use Rattle.c_parser.specs.Nesting.{Bounds, specs_stand, specifiers_stand}
 use Rattle.c_parser.specs.Reading.{State, Outcome, sees_mark}
-use Rattle.c_parser.specs.ReadingDecl.{are_of_type, taken_word, is_untyped, Saying, SaysStorage, SaysQualifier, SaysWord, SaysStruct, SaysEnum, SaysName, SaysNothing, saying_of, ended_specs, by_saying, specifiers, specs}
+use Rattle.c_parser.specs.ReadingDecl.{taken_word, is_untyped, Saying, SaysStorage, SaysQualifier, SaysWord, SaysStruct, SaysEnum, SaysName, SaysNothing, saying_of, ended_specs, by_saying, specifiers, specs}
 use Rattle.c_parser.specs.Inner.{Inner}
 use Rattle.c_parser.proofs.Late.{Meets, same, on, ◌▸◌}
 use Rattle.c_parser.proofs.Laws.{at_state, is_keyword_at, Complete}

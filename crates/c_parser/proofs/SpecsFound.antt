@@ -1,6 +1,6 @@
 -- What a step of reading found, and the tokens that stood there.
-use Rattle.std.proofs.Common.{◌≡◌, ℕ, ◌&&◌, Bool, true, false, cond, if◌then◌else◌, Option, Some, None, Ok, Err, List, [], ◌∷◌, refl, sym, ap, ◌∙◌, subst, ◌⊎◌, inl, inr}
-use denote.Enum.Bare.{sameb, same_true}
+use Rattle.std.proofs.Common.{◌≡◌, ℕ, Bool, true, false, cond, Option, Some, None, Ok, Err, List, [], ◌∷◌, refl, ap, subst, ◌⊎◌, inl, inr}
+use denote.Enum.Bare.{same_true}
 use Rattle.c_lex.specs.declared.token.Token.{Token}
 use Rattle.c_lex.specs.declared.token.TokenKind.{TokenKind}
 use Rattle.c_lex.specs.declared.token.TokenKind.TheVariants as kind
@@ -10,8 +10,8 @@ use Rattle.c_lex.specs.contracts.token.Mark as mark_contract
 use Rattle.c_lex.specs.contracts.token.Keyword as keyword_contract
 use Rattle.c_ast.specs.declared.words.Name.{Name}
 use Rattle.c_parser.specs.Names.{Names, name_at}
-use Rattle.c_parser.specs.Words.{IsMark, IsKeyword, number_of}
-use Rattle.c_parser.specs.Reading.{State, Fault, Unexpected, Outcome, Reader, ◌>>=◌, is_mark, is_keyword, is_name, same_mark, same_keyword, sees_mark, sees_keyword, tail, behind, here, expect_mark, expect_name, name_at_front, or_unexpected}
+use Rattle.c_parser.specs.Words.{IsMark, number_of}
+use Rattle.c_parser.specs.Reading.{State, Unexpected, Outcome, ◌>>=◌, is_mark, is_keyword, is_name, same_mark, same_keyword, sees_mark, tail, behind, here, expect_mark, expect_name, name_at_front, or_unexpected}
 use Rattle.c_parser.specs.ReadingExpr.{choose}
 
 pub ok_same : {A : Type 0} {x y : A} → ◌≡◌ {A = Outcome A} (Ok x) (Ok y) → x ≡ y

@@ -1,5 +1,5 @@
 -- What is read as a structure or as an enumeration is one.
-use Rattle.std.proofs.Common.{◌≡◌, ℕ, zero, suc, ◌+◌, ◌≤◌, nat_eq, Bool, true, false, cond, if◌then◌else◌, Option, Some, None, Ok, Err, List, [], ◌∷◌, ◌++◌, length, append_assoc, refl, sym, ap, ◌∙◌, subst, ◌⊎◌, inl, inr, arith}
+use Rattle.std.proofs.Common.{◌≡◌, ℕ, zero, suc, nat_eq, false, if◌then◌else◌, Option, Some, None, Ok, Err, List, [], ◌∷◌, ◌++◌, length, append_assoc, refl, sym, ap, ◌∙◌, subst, inl, inr}
 use Rattle.c_lex.specs.declared.token.Token.{Token}
 use Rattle.c_lex.specs.declared.token.Keyword.TheVariants as keyword
 use Rattle.c_lex.specs.declared.token.Mark.{Mark}
@@ -16,13 +16,12 @@ use Rattle.c_ast.specs.declared.declaration.Declarator.{Declarator}
 use Rattle.c_parser.specs.declared.grammar.Extent.TheVariants as extent
 use Rattle.c_parser.specs.Names.{Names, declared, name_at}
 use Rattle.c_parser.specs.Words.{IsMark, IsKeyword, number_of}
-use Rattle.c_parser.specs.Grammar.{IsExpr, Cond, AreSpecs, IsStruct, struct_reference, struct_tagged, struct_untagged, AreMembers, one_member, more_members, IsMember, member as a_member, AreDeclarators, one_declarator, more_declarators, IsDeclarator, IsEnum, enum_reference, enum_tagged, enum_untagged, AreEnumerators, one_enumerator, last_enumerator, more_enumerators, IsEnumerator, enumerator as an_enumerator, valued}
-use Rattle.c_parser.specs.Reading.{State, Unexpected, Outcome, Reader, ◌>>=◌, sees_mark, tail, behind, here, expect_mark, expect_name, name_at_front}
-use Rattle.c_parser.specs.ReadingExpr.{choose}
+use Rattle.c_parser.specs.Grammar.{IsExpr, Cond, IsStruct, struct_reference, struct_tagged, struct_untagged, AreMembers, one_member, more_members, IsMember, member as a_member, AreDeclarators, one_declarator, more_declarators, IsDeclarator, IsEnum, enum_reference, enum_tagged, enum_untagged, AreEnumerators, one_enumerator, last_enumerator, more_enumerators, IsEnumerator, enumerator as an_enumerator, valued}
+use Rattle.c_parser.specs.Reading.{State, Unexpected, Outcome, ◌>>=◌, sees_mark, tail, behind, here, expect_mark, expect_name, name_at_front}
 use Rattle.c_parser.specs.ReadingDecl.{members_declared, member, members, struct_body, struct_spec, too_deep, with_declared, enumerator, enumerators, enum_body, enum_spec}
 use Rattle.c_parser.specs.Inner.{Inner}
 use Rattle.c_parser.proofs.Laws.{at_state, Sound}
-use Rattle.c_parser.proofs.SpecsFound.{ok_same, moved_ok, bind_ok, choose_is, cond_is, moved_both, Taken, taken_behind, expect_mark_is, NameTaken, expect_name_is, NameStands, name_at_front_is}
+use Rattle.c_parser.proofs.SpecsFound.{ok_same, moved_ok, bind_ok, choose_is, cond_is, moved_both, taken_behind, expect_mark_is, expect_name_is, name_at_front_is}
 
 -- Parts were read behind those before, and then this punctuator.
 pub record Listed {A : Type 0} (m : Mark) (Are : Names → List Token → List Token → Names → List A → Type 0) (front : List A) (s : State) (x : List A × State) : Type 0 where

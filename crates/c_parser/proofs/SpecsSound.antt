@@ -1,32 +1,24 @@
 -- What is read as specifiers is some.
-use Rattle.std.proofs.Common.{◌≡◌, ℕ, zero, suc, ◌&&◌, ◌||◌, Bool, true, false, not, cond, if◌then◌else◌, Option, Some, None, Ok, Err, List, [], ◌∷◌, ◌++◌, length, append_assoc, append-nil, refl, sym, ap, ◌∙◌, subst, ◌⊎◌, inl, inr}
+use Rattle.std.proofs.Common.{◌≡◌, ℕ, zero, suc, ◌&&◌, ◌||◌, Bool, true, false, not, cond, if◌then◌else◌, Option, Some, None, Ok, List, [], ◌∷◌, ◌++◌, length, append_assoc, append-nil, refl, sym, ap, ◌∙◌, subst, inl, inr}
 use Rattle.std.proofs.lemmas.Bool.{and_parts}
 use Rattle.c_lex.specs.declared.token.Token.{Token}
 use Rattle.c_lex.specs.declared.token.Keyword.TheVariants as keyword
 use Rattle.c_ast.specs.declared.words.Name.{Name}
-use Rattle.c_ast.specs.declared.words.Storage.{Storage}
-use Rattle.c_ast.specs.declared.words.Qualifier.{Qualifier}
 use Rattle.c_ast.specs.declared.words.TypeWord.{TypeWord}
-use Rattle.c_ast.specs.declared.words.TypeWord.TheVariants as word
 use Rattle.c_ast.specs.declared.declaration.Specifier.{Specifier}
 use Rattle.c_ast.specs.declared.declaration.Specifier.TheVariants as specifier
-use Rattle.c_ast.specs.declared.declaration.Specs.{Specs}
-use Rattle.c_ast.specs.declared.declaration.StructSpec.{StructSpec}
-use Rattle.c_ast.specs.declared.declaration.Member.{Member}
-use Rattle.c_ast.specs.declared.declaration.EnumSpec.{EnumSpec}
-use Rattle.c_ast.specs.declared.expression.Expr.{Expr}
 use Rattle.c_parser.specs.declared.grammar.ReadSpecs.{ReadSpecs}
 use Rattle.c_parser.specs.Names.{Names, IsTypeName, is_type_in, name_at}
 use Rattle.c_parser.specs.Words.{IsKeyword, number_of, storage_of, qualifier_of, word_of}
 use Rattle.c_parser.specs.Types.{AreOfType, Typed, Untyped, Words, Whole, with_word, IsOneType, declares_types}
 use Rattle.c_parser.specs.Grammar.{AreSpecs, specs as the_specs, AreSpecifiers, no_specifiers, storage, qualifier, word as a_word, struct_specifier, enum_specifier, typedef_name}
-use Rattle.c_parser.specs.Reading.{State, Unexpected, Outcome, Reader, ◌>>=◌, is_keyword, is_name, behind, here}
+use Rattle.c_parser.specs.Reading.{State, Outcome, is_keyword, is_name, here}
 use Rattle.c_parser.specs.ReadingExpr.{choose}
 use Rattle.c_parser.specs.ReadingDecl.{are_of_type, taken_word, is_untyped, struct_spec, enum_spec, Saying, SaysStorage, SaysQualifier, SaysWord, SaysStruct, SaysEnum, SaysName, SaysNothing, saying_type, saying_word, saying_of, ended_specs, GoesOn, by_saying, specifiers, specs}
 use Rattle.c_parser.specs.Inner.{Inner}
 use Rattle.c_parser.proofs.Laws.{at_state, Sound}
 use Rattle.c_parser.proofs.SpecsTypes.{are_of_type-Decides, one_word}
-use Rattle.c_parser.proofs.SpecsFound.{ok_same, moved_ok, bind_ok, cond_is, is_keyword_kind, is_name_kind}
+use Rattle.c_parser.proofs.SpecsFound.{moved_ok, bind_ok, cond_is, is_keyword_kind, is_name_kind}
 use Rattle.c_parser.proofs.SpecsParts.{struct_spec_sound, enum_spec_sound}
 
 -- ---- what a token says

@@ -1,8 +1,7 @@
 -- What is read as an initialiser or as a declaration is one.
-use Rattle.std.proofs.Common.{◌≡◌, ℕ, zero, suc, ◌++◌, ◌&&◌, not, Bool, true, false, cond, Option, Some, None, Result, Ok, Err, List, [], ◌∷◌, length, refl, sym, ap, ◌∙◌, subst, inl, inr, append_assoc, append-nil}
+use Rattle.std.proofs.Common.{◌≡◌, ℕ, zero, suc, ◌++◌, not, Bool, true, false, cond, Some, None, Ok, List, [], ◌∷◌, length, refl, sym, ◌∙◌, subst, inl, inr, append_assoc, append-nil}
 use Rattle.c_lex.specs.declared.token.Token.{Token}
 use Rattle.c_lex.specs.declared.token.Mark.TheVariants as mark
-use Rattle.c_ast.specs.declared.expression.Expr.{Expr}
 use Rattle.c_ast.specs.declared.declaration.Init.{Init}
 use Rattle.c_ast.specs.declared.declaration.Init.TheVariants as an_init
 use Rattle.c_ast.specs.declared.declaration.InitDeclarator.{InitDeclarator}
@@ -10,17 +9,17 @@ use Rattle.c_ast.specs.declared.declaration.Decl.{Decl}
 use Rattle.c_parser.specs.declared.grammar.Extent.TheVariants as extent
 use Rattle.c_parser.specs.declared.grammar.ReadSpecs.{ReadSpecs}
 use Rattle.c_parser.specs.declared.grammar.ReadDeclarator.{ReadDeclarator}
-use Rattle.c_parser.specs.Names.{Names, declared}
+use Rattle.c_parser.specs.Names.{Names}
 use Rattle.c_parser.specs.Words.{IsMark, number_of}
 use Rattle.c_parser.specs.Grammar.{Assign, IsExpr, AreSpecs, IsDeclarator, IsInit, init_value, list, AreInits, one_init, last_init, more_inits, IsInitDeclarator, AreInitDeclarators, IsDecl, bare}
 use Rattle.c_parser.specs.Grammar as grammar
-use Rattle.c_parser.specs.Reading.{State, Outcome, Reader, ◌>>=◌, sees_mark, tail, behind, here, expect_mark}
+use Rattle.c_parser.specs.Reading.{State, Reader, ◌>>=◌, sees_mark, tail, behind, here, expect_mark}
 use Rattle.c_parser.specs.Levels.{readers}
 use Rattle.c_parser.specs.ReadingStmt.{declaring, inits_go_on, behind_comma}
 use Rattle.c_parser.specs.ReadingStmt as reading
 use Rattle.c_parser.proofs.Laws.{Sound}
 use Rattle.c_parser.proofs.ExprStarts.{and_is}
-use Rattle.c_parser.proofs.ExprFound.{found, ok_same, moved, bind_ok, cond_is, Stands, sees_mark_is, Expected, expect_mark_is}
+use Rattle.c_parser.proofs.ExprFound.{moved, bind_ok, cond_is, sees_mark_is, expect_mark_is}
 
 module _ (total most : ℕ) (sound : (room : ℕ) → Sound total most room (readers total most room)) where
   abbrev SoundInit : ℕ → Reader Init → Type 0

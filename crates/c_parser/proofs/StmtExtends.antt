@@ -1,5 +1,5 @@
 -- Each declaration and each statement only adds names to those in scope, and only takes tokens.
-use Rattle.std.proofs.Common.{◌≡◌, ℕ, suc, ◌-◌, Bool, Option, List, [], ◌∷◌, ◌++◌, length, drop, refl, ap, ◌∙◌, length-append, arith}
+use Rattle.std.proofs.Common.{◌≡◌, ℕ, ◌-◌, Bool, Option, List, [], length, drop, refl, ap, ◌∙◌, length-append, arith}
 use Rattle.c_lex.specs.declared.token.Token.{Token}
 use Rattle.c_ast.specs.declared.expression.Expr.{Expr}
 use Rattle.c_ast.specs.declared.declaration.Init.{Init}
@@ -8,7 +8,7 @@ use Rattle.c_ast.specs.declared.declaration.Decl.{Decl}
 use Rattle.c_ast.specs.declared.statement.Stmt.{Stmt}
 use Rattle.c_ast.specs.declared.statement.ForStart.{ForStart}
 use Rattle.c_ast.specs.declared.statement.BlockItem.{BlockItem}
-use Rattle.c_parser.specs.Names.{Names, declared}
+use Rattle.c_parser.specs.Names.{Names}
 use Rattle.c_parser.specs.Reading.{State}
 use Rattle.c_parser.specs.ReadingStmt.{left_to, left}
 use Rattle.c_parser.specs.Grammar.{
@@ -55,7 +55,7 @@ use Rattle.c_parser.specs.Grammar.{
   statement_item,
 }
 use Rattle.std.proofs.Math.Seq.{drop-append_seam}
-use Rattle.c_parser.proofs.Extends.{Extends, nothing_taken, joined, led, closed, with_name, skipped, expr_extends, specs_extend, declarator_extends}
+use Rattle.c_parser.proofs.Extends.{Extends, nothing_taken, joined, led, closed, with_name, expr_extends, specs_extend, declarator_extends}
 
 -- what is behind a part whose names are gone
 pub alone : {names after : Names} {ts rest : List Token} → Extends names after ts rest → Extends names names ts rest

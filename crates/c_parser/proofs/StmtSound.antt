@@ -1,5 +1,5 @@
 -- What is read as a statement, or as what stands in a block, is such a part.
-use Rattle.std.proofs.Common.{◌≡◌, ℕ, zero, suc, ◌++◌, ◌-◌, Bool, true, false, cond, nat_eq, Option, Some, None, Result, Ok, Err, List, [], ◌∷◌, length, refl, sym, ap, ◌∙◌, subst, inl, inr, append_assoc, append-nil, arith}
+use Rattle.std.proofs.Common.{◌≡◌, ℕ, zero, suc, ◌++◌, ◌-◌, Bool, true, false, cond, nat_eq, Option, Some, None, Ok, Err, List, [], ◌∷◌, length, refl, sym, ap, ◌∙◌, subst, inl, inr, append_assoc, append-nil, arith}
 use Rattle.c_lex.specs.declared.token.Token.{Token}
 use Rattle.c_lex.specs.declared.token.TokenKind.{TokenKind}
 use Rattle.c_lex.specs.declared.token.TokenKind.TheVariants as kind
@@ -8,7 +8,6 @@ use Rattle.c_lex.specs.declared.token.Keyword.TheVariants as keyword
 use Rattle.c_lex.specs.declared.token.Mark.{Mark}
 use Rattle.c_lex.specs.declared.token.Mark.TheVariants as mark
 use Rattle.c_ast.specs.declared.expression.Expr.{Expr}
-use Rattle.c_ast.specs.declared.declaration.Decl.{Decl}
 use Rattle.c_ast.specs.declared.statement.Stmt.{Stmt}
 use Rattle.c_ast.specs.declared.statement.Stmt.TheVariants as stmt
 use Rattle.c_ast.specs.declared.statement.ForStart.{ForStart}
@@ -21,15 +20,15 @@ use Rattle.c_parser.specs.Names.{Names}
 use Rattle.c_parser.specs.Words.{IsMark, IsKeyword, number_of}
 use Rattle.c_parser.specs.Grammar.{Cond, Comma, IsExpr, IsOptional, IsForStart, IsTest, IsStmt, AreItems}
 use Rattle.c_parser.specs.Grammar as grammar
-use Rattle.c_parser.specs.Reading.{State, Outcome, Reader, Fault, Unexpected, ◌>>=◌, sees_mark, sees_keyword, tail, behind, here, expect_mark, expect_keyword}
+use Rattle.c_parser.specs.Reading.{State, Reader, Fault, Unexpected, ◌>>=◌, sees_mark, sees_keyword, tail, behind, here, expect_mark, expect_keyword}
 use Rattle.c_parser.specs.ReadingExpr.{sees_type}
 use Rattle.c_parser.specs.ReadingDecl.{too_deep}
 use Rattle.c_parser.specs.Levels.{readers}
 use Rattle.c_parser.specs.ReadingStmt.{left, keyword_of, keyword_at}
 use Rattle.c_parser.specs.ReadingStmt as reading
 use Rattle.c_parser.proofs.Laws.{Sound, at_state}
-use Rattle.c_parser.proofs.Extends.{Extends, joined, closed, led}
-use Rattle.c_parser.proofs.ExprFound.{found, ok_same, some_same, moved, bind_ok, cond_is, Stands, sees_mark_is, StandsWord, sees_keyword_is, Expected, expect_mark_is}
+use Rattle.c_parser.proofs.Extends.{Extends, joined, closed}
+use Rattle.c_parser.proofs.ExprFound.{some_same, moved, bind_ok, cond_is, sees_mark_is, StandsWord, sees_keyword_is, expect_mark_is}
 use Rattle.c_parser.proofs.StmtExtends.{alone, left_is, optional_extends, start_extends, test_extends, stmt_extends, items_extend}
 use Rattle.c_parser.proofs.StmtDeclSound.{decl_sound}
 

@@ -1,5 +1,5 @@
 -- How the loops of the parser go on.
-use Rattle.std.proofs.Common.{◌≡◌, ◌<◌, ◌-◌, ℕ, zero, suc, Bool, true, false, cond, Result, Ok, Err, List, [], ◌∷◌, ◌++◌, refl, sym, ap, ◌∙◌, subst, arith}
+use Rattle.std.proofs.Common.{◌≡◌, ◌<◌, ◌-◌, ℕ, zero, suc, Bool, true, false, cond, Ok, List, [], ◌∷◌, ◌++◌, sym, ap, ◌∙◌, subst, arith}
 use Rattle.c_lex.specs.declared.token.Mark.TheVariants as mark
 use Rattle.c_ast.specs.declared.declaration.InitDeclarator.{InitDeclarator}
 use Rattle.c_ast.specs.declared.statement.Stmt.{Stmt}

@@ -1,29 +1,26 @@
 -- What is read as a unit is one.
-use Rattle.std.proofs.Common.{◌≡◌, ◌≢◌, ℕ, zero, suc, ◌++◌, Bool, true, false, cond, Option, Some, None, Result, Ok, Err, List, [], ◌∷◌, length, refl, sym, ap, ◌∙◌, subst, inl, inr, append_assoc, append-nil}
-use Rattle.std.specs.Prelude.{IfOk, IfErr}
+use Rattle.std.proofs.Common.{◌≡◌, ℕ, zero, suc, ◌++◌, true, cond, Result, Ok, Err, List, [], ◌∷◌, length, refl, sym, ◌∙◌, subst, inl, inr, append_assoc, append-nil}
+use Rattle.std.specs.Prelude.{IfOk}
 use Rattle.c_lex.specs.declared.token.Token.{Token}
 use Rattle.c_lex.specs.declared.token.Mark.TheVariants as mark
-use Rattle.c_ast.specs.declared.declaration.Decl.{Decl}
 use Rattle.c_ast.specs.declared.declaration.External.{External}
 use Rattle.c_ast.specs.declared.declaration.External.TheVariants as an_external
 use Rattle.c_ast.specs.declared.declaration.Unit.{Unit as AUnit}
-use Rattle.c_ast.specs.declared.statement.Stmt.{Stmt}
-use Rattle.c_ast.specs.declared.statement.BlockItem.{BlockItem}
 use Rattle.c_parser.specs.declared.error.ParseError.{ParseError}
 use Rattle.c_parser.specs.declared.grammar.ReadSpecs.{ReadSpecs}
 use Rattle.c_parser.specs.declared.grammar.ReadDeclarator.{ReadDeclarator}
 use Rattle.c_parser.specs.Names.{Names, declared, nothing}
 use Rattle.c_parser.specs.Owns.{own_names}
-use Rattle.c_parser.specs.Words.{IsMark, number_of}
+use Rattle.c_parser.specs.Words.{number_of}
 use Rattle.c_parser.specs.Grammar.{AreSpecs, IsDeclarator, IsDecl, AreItems, IsExternal, AreExternals, ParsesWithin}
 use Rattle.c_parser.specs.Grammar as grammar
-use Rattle.c_parser.specs.Reading.{State, Outcome, Fault, Gives, ◌>>=◌, sees_mark, tail, behind, here}
+use Rattle.c_parser.specs.Reading.{State, Fault, Gives, ◌>>=◌, sees_mark, tail, behind, here}
 use Rattle.c_parser.specs.Levels.{readers}
 use Rattle.c_parser.specs.ReadingStmt.{left, left_to, is_end}
 use Rattle.c_parser.specs.ReadingStmt as reading
 use Rattle.c_parser.proofs.Laws.{Sound, at_state}
 use Rattle.c_parser.proofs.Extends.{Extends, closed}
-use Rattle.c_parser.proofs.ExprFound.{found, ok_same, moved, bind_ok, cond_is, Stands, sees_mark_is}
+use Rattle.c_parser.proofs.ExprFound.{moved, bind_ok, cond_is, sees_mark_is}
 use Rattle.c_parser.proofs.StmtExtends.{left_is, items_extend}
 use Rattle.c_parser.proofs.StmtDeclSound.{decl_from_sound, bare_sound}
 use Rattle.c_parser.proofs.StmtSound.{block_items_sound}

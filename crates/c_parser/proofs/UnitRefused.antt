@@ -1,5 +1,5 @@
 -- Where a unit isn't read, its tokens up to that place are viable; so the token there is the first that is refused.
-use Rattle.std.proofs.Common.{◌≡◌, ℕ, List}
+use Rattle.std.proofs.Common.{ℕ}
 use Rattle.c_parser.proofs.LevelLaws.{readers_sound}
 use Rattle.c_parser.proofs.LevelsViable.{readers_viable}
 use Rattle.c_parser.proofs.ViableUnit.{unit_viable}

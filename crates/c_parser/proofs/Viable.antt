@@ -1,6 +1,6 @@
 -- Where a reader stops, the tokens before that place go on to what it reads: some tokens put in the place of those that are left
 -- make the part whole, with any tail behind it, and the tokens before the place stand within the limits.
-use Rattle.std.proofs.Common.{◌≡◌, ℕ, zero, suc, ◌+◌, ◌<◌, ◌≤◌, ◌⊎◌, inl, inr, Bool, true, false, cond, Option, Some, None, Ok, Err, List, [], ◌∷◌, length, refl, sym, ap, ◌∙◌, arith}
+use Rattle.std.proofs.Common.{◌≡◌, ℕ, zero, suc, ◌≤◌, ◌⊎◌, inl, inr, Bool, true, false, cond, Ok, Err, List, [], ◌∷◌, length, refl, sym, ap, arith}
 use Rattle.c_lex.specs.declared.token.Token.{Token}
 use Rattle.c_lex.specs.declared.token.TokenKind.{TokenKind}
 use Rattle.c_lex.specs.declared.token.TokenKind.TheVariants as kind
@@ -18,13 +18,12 @@ use Rattle.c_ast.specs.declared.declaration.Abstract.{Abstract}
 use Rattle.c_ast.specs.declared.declaration.TypeName.{TypeName, roll-TypeName}
 use Rattle.c_parser.specs.declared.grammar.Extent.{Extent}
 use Rattle.c_parser.specs.declared.grammar.Extent.TheVariants as extent
-use Rattle.c_parser.specs.declared.grammar.ReadParam.TheVariants.{Named, Unnamed}
 use Rattle.c_parser.specs.Names.{Names}
 use Rattle.c_parser.specs.Owns.{Own, Open}
-use Rattle.c_parser.specs.Words.{IsMark, IsKeyword, number_of}
+use Rattle.c_parser.specs.Words.{number_of}
 use Rattle.c_parser.specs.Grammar as g
 use Rattle.c_parser.specs.Grammar.{Part, Primary, Postfix, Unary, Level, Cond, Assign, Comma, IsExpr, AreSpecs, IsDeclarator, IsAbstract, StartsTypeInParens}
-use Rattle.c_parser.specs.Nesting.{Bounds, Stands, expr_stands, specs_stand, declarator_stands, abstract_stands}
+use Rattle.c_parser.specs.Nesting.{expr_stands, specs_stand, declarator_stands, abstract_stands}
 use Rattle.c_parser.specs.Reading.{State, Fault, Unexpected, TooNested, Outcome, ◌>>=◌, sees_mark, sees_keyword, expect_mark, expect_keyword, expect_name}
 use Rattle.c_parser.specs.Inner.{Inner, part_of}
 use Rattle.c_parser.specs.ReadingDecl.{too_deep}
@@ -32,7 +31,7 @@ use Rattle.c_parser.specs.Levels.{no_level}
 use Rattle.c_parser.proofs.Laws.{IsTypeInParens, in_parens_stands}
 use Rattle.c_parser.proofs.SpecsTypes.{one_word}
 use Rattle.c_parser.proofs.Late.{raised, raised_is}
-use Rattle.c_parser.proofs.Deep.{Deeper, bounds, Swapped, at_tail, more_swapped, joined, Moved, deep, ExprAt, SpecsAt, DeclaratorAt, AbstractAt, TypeAt}
+use Rattle.c_parser.proofs.Deep.{Deeper, bounds, Swapped, at_tail, more_swapped, joined, Moved, ExprAt, SpecsAt, DeclaratorAt, AbstractAt}
 
 abbrev pub fault_at : Fault → ℕ
 fault_at (Unexpected token) = token

@@ -1,42 +1,35 @@
 -- Where an expression isn't read, it is viable.
-use Rattle.std.proofs.Common.{◌≡◌, ◌≢◌, ℕ, zero, suc, ◌+◌, ◌<◌, ◌≤◌, ◌⊎◌, ◌++◌, inl, inr, Bool, true, false, cond, if◌then◌else◌, Option, Some, None, Ok, Err, List, [], ◌∷◌, length, refl, sym, ap, subst, ◌∙◌, arith}
+use Rattle.std.proofs.Common.{◌≡◌, ℕ, zero, suc, ◌+◌, ◌<◌, ◌≤◌, ◌++◌, inl, inr, false, if◌then◌else◌, Option, Some, None, Ok, Err, List, [], ◌∷◌, length, refl, sym, ap, subst, ◌∙◌, arith}
 use Rattle.c_lex.specs.declared.token.Token.{Token}
 use Rattle.c_lex.specs.declared.token.TokenKind.{TokenKind}
 use Rattle.c_lex.specs.declared.token.TokenKind.TheVariants as kind
-use Rattle.c_lex.specs.declared.token.NumberType.TheVariants as number_type
-use Rattle.c_lex.specs.declared.token.Keyword.TheVariants as keyword
 use Rattle.c_lex.specs.declared.token.Mark.{Mark}
 use Rattle.c_lex.specs.declared.token.Mark.TheVariants as mark
 use Rattle.c_ast.specs.declared.words.Name.{Name}
-use Rattle.c_ast.specs.declared.words.PrefixOp.{PrefixOp}
-use Rattle.c_ast.specs.declared.words.BinaryOp.{BinaryOp}
-use Rattle.c_ast.specs.declared.words.AssignOp.{AssignOp}
 use Rattle.c_ast.specs.declared.expression.Expr.{Expr}
-use Rattle.c_ast.specs.declared.expression.Link.{Link}
 use Rattle.c_ast.specs.declared.expression.PostfixOp.{PostfixOp}
 use Rattle.c_ast.specs.declared.expression.PostfixOp.TheVariants as after
-use Rattle.c_ast.specs.declared.declaration.TypeName.{TypeName}
 use Rattle.c_parser.specs.declared.grammar.Extent.{Extent}
 use Rattle.c_parser.specs.declared.grammar.Extent.TheVariants as extent
 use Rattle.c_parser.specs.Names.{Names}
-use Rattle.c_parser.specs.Words.{IsMark, IsKeyword, number_of, prefix_of, assign_of, operator_of, placed}
+use Rattle.c_parser.specs.Words.{IsMark, number_of}
 use Rattle.c_parser.specs.Grammar as g
 use Rattle.c_parser.specs.Grammar.{Part, Primary, Postfix, Unary, Level, Cond, Assign, Comma, IsExpr, AreLinks, AreOthers, ArePostfix, AreArguments, IsTypeNamed, StartsTypeInParens, postfixed, linked, listed}
-use Rattle.c_parser.specs.Nesting.{Bounds, Stands, expr_stands, links_stand, others_stand, listed_stand, postfix_stand}
+use Rattle.c_parser.specs.Nesting.{Bounds, expr_stands, listed_stand, postfix_stand}
 use Rattle.c_parser.specs.Reading.{State, Fault, Unexpected, TooNested, Outcome, Reader, ◌>>=◌, is_mark, is_keyword, sees_mark, sees_keyword, behind, expect_mark, expect_name}
 use Rattle.c_parser.specs.Inner.{Inner, part_of}
 use Rattle.c_parser.specs.ReadingExpr.{front_expr, choose, or_else, sees_type_in_parens}
 use Rattle.c_parser.specs.ReadingExpr as reading
-use Rattle.c_parser.proofs.Late.{raised, raised_is}
-use Rattle.c_parser.proofs.Laws.{Sound, at_state, IsTypeInParens, in_parens_stands}
+use Rattle.c_parser.proofs.Late.{raised}
+use Rattle.c_parser.proofs.Laws.{Sound, at_state}
 use Rattle.std.proofs.lemmas.List.{length-append}
-use Rattle.c_parser.proofs.ExprSound.{primary_sound, unary_sound, level_from_sound, assign_sound, operator_sound, prefix_at_is, assign_at_is, operator_in_is, type_sound}
-use Rattle.c_parser.proofs.ExprFound.{some_same, found, bind_ok, choose_is, cond_is, Stands as Comes, sees_mark_is, sees_keyword_is, mark_is, keyword_is, expect_mark_is}
+use Rattle.c_parser.proofs.ExprSound.{primary_sound, operator_sound}
+use Rattle.c_parser.proofs.ExprFound.{some_same, found, choose_is, cond_is, sees_mark_is, mark_is}
 use Rattle.c_parser.proofs.ExprTokens.{expr_begins}
-use Rattle.c_parser.proofs.ExprStarts.{starts_no_type, in_parens_of, sees_no_type, starts_type_of}
-use Rattle.c_parser.proofs.Deep.{Deeper, bounds, Swapped, at_tail, more_swapped, joined, Moved, deep, none_left, early, ExprAt, LinksAt, OthersAt, PostfixAt, ArgumentsAt}
-use Rattle.c_parser.proofs.Moves.{moved_expr, moved_postfix, moved_type, no_type_moves, opens_there, expr_room}
-use Rattle.c_parser.proofs.Viable.{Viable, ViableExpr, Viables, InParensAt, fault_at, bind_err, err_is, mark_missed, onto, led, behind_part, put_behind, put_here, made, mark_token, number_token, name_token, word_token, zero_expr, zero_primary, zero_assign, raised_big, number_no_type}
+use Rattle.c_parser.proofs.ExprStarts.{starts_type_of}
+use Rattle.c_parser.proofs.Deep.{Deeper, bounds, at_tail, more_swapped, deep, none_left, early, ExprAt}
+use Rattle.c_parser.proofs.Moves.{moved_expr, moved_postfix, no_type_moves, opens_there, expr_room}
+use Rattle.c_parser.proofs.Viable.{Viable, ViableExpr, Viables, fault_at, bind_err, err_is, mark_missed, onto, led, behind_part, put_behind, put_here, made, mark_token, number_token, name_token, zero_primary, zero_assign, raised_big, number_no_type}
 
 -- ---- tokens
 

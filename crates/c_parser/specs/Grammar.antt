@@ -6,13 +6,12 @@
 -- and `{` that are open around it, with one for each statement around it that is no block, each prefix operator, and each `?` or
 -- assignment operator on whose right it stands. `most` is the number of operators that a chain may have: one run of binary, comma or
 -- postfix operators at one level. `total` is the number of all tokens; a tree's nodes have the numbers of their first tokens.
-use Rattle.std.specs.Prelude.{ℕ, suc, ◌≡◌, ◌≢◌, ◌≤◌, ◌⊎◌, ◌||◌, Bool, true, false, Option, Some, None, List, [], ◌∷◌, ◌++◌, length}
+use Rattle.std.specs.Prelude.{ℕ, suc, ◌≡◌, ◌≤◌, ◌⊎◌, ◌||◌, Bool, true, false, Option, Some, None, List, [], ◌∷◌, ◌++◌, length}
 use Rattle.c_lex.specs.declared.token.Token.{Token}
 use Rattle.c_lex.specs.declared.token.TokenKind.TheVariants as kind
 use Rattle.c_lex.specs.declared.token.NumberType.{NumberType as TokenType}
 use Rattle.c_lex.specs.declared.token.Keyword.TheVariants as keyword
 use Rattle.c_lex.specs.declared.token.Mark.TheVariants as mark
-use Rattle.c_ast.specs.declared.words.Name.{Name}
 use Rattle.c_ast.specs.declared.words.Storage.{Storage}
 use Rattle.c_ast.specs.declared.words.Qualifier.{Qualifier}
 use Rattle.c_ast.specs.declared.words.TypeWord.{TypeWord}
@@ -55,10 +54,10 @@ use Rattle.c_ast.specs.declared.statement.ForStart.{ForStart}
 use Rattle.c_ast.specs.declared.statement.ForStart.TheVariants as start
 use Rattle.c_ast.specs.declared.statement.BlockItem.{BlockItem}
 use Rattle.c_ast.specs.declared.statement.BlockItem.TheVariants as item
-use Rattle.c_parser.specs.Names.{Names, Known, IsTypeName, IsOrdinary, declared, nothing, name_at, is_type_in}
-use Rattle.c_parser.specs.Owns.{Own, Open, Closed, settled, own_names}
+use Rattle.c_parser.specs.Names.{Names, IsTypeName, IsOrdinary, declared, nothing, name_at}
+use Rattle.c_parser.specs.Owns.{Own, Open, settled, own_names}
 use Rattle.c_parser.specs.Words.{IsMark, IsKeyword, number_of, number_type_of, storage_of, qualifier_of, word_of, prefix_of, placed, operator_of, assign_of}
-use Rattle.c_parser.specs.Types.{Typed, Untyped, Words, Whole, with_word, IsOneType, declares_types}
+use Rattle.c_parser.specs.Types.{Typed, Untyped, Whole, with_word, IsOneType, declares_types}
 
 -- ---- trees of repeated parts
 

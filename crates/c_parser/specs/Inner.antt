@@ -1,5 +1,5 @@
 -- What is read one level further in, where one more bracket is open or one more operator stands on the left.
-use Rattle.std.specs.Prelude.{◌≡◌, Ok}
+use Rattle.std.specs.Prelude.{Ok}
 use Rattle.c_ast.specs.declared.expression.Expr.{Expr}
 use Rattle.c_ast.specs.declared.declaration.Abstract.{Abstract}
 use Rattle.c_ast.specs.declared.declaration.TypeName.{TypeName}
@@ -13,7 +13,7 @@ use Rattle.c_parser.specs.declared.grammar.ReadSpecs.{ReadSpecs}
 use Rattle.c_parser.specs.declared.grammar.ReadDeclarator.{ReadDeclarator}
 use Rattle.c_parser.specs.declared.grammar.ReadParam.{ReadParam}
 use Rattle.c_parser.specs.Grammar.{Part, Unary, Cond, Assign, Comma}
-use Rattle.c_parser.specs.Reading.{State, Reader, Outcome, ◌>>=◌}
+use Rattle.c_parser.specs.Reading.{Reader, ◌>>=◌}
 
 abbrev pub part_of : Extent → Part
 part_of extent.Unary = Unary

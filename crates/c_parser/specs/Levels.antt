@@ -1,10 +1,9 @@
 -- What is read at each level: a place with no room takes nothing.
-use Rattle.std.specs.Prelude.{ℕ, zero, suc, ◌≡◌, Result, Ok, Err, []}
+use Rattle.std.specs.Prelude.{ℕ, zero, suc, Ok, Err, []}
 use Rattle.c_ast.specs.declared.expression.Expr.{Expr}
 use Rattle.c_ast.specs.declared.declaration.Abstract.{Abstract}
 use Rattle.c_parser.specs.declared.grammar.ReadParam.TheVariants.{Unnamed}
 use Rattle.c_parser.specs.Inner.{Inner}
-use Rattle.c_parser.specs.Reading.{State, Reader}
 use Rattle.c_parser.specs.ReadingExpr.{expr_of, type_in_parens}
 use Rattle.c_parser.specs.ReadingDecl.{specs, declarator, unnamed, param_declarator, too_deep}
 

@@ -15,4 +15,6 @@ pub mod ReadingSpecs
 pub mod NestsStmt
 pub mod Nesting
 pub mod Refusals
+pub mod Brackets
+pub mod Places
 pub mod Told

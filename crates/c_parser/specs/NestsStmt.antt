@@ -5,7 +5,7 @@ use denote.Ref.{MutBor}
 use Rattle.c_ast.specs.declared.statement.Stmt.{Stmt}
 use Rattle.c_parser.specs.declared.cursor.Cursor.{Cursor}
 use Rattle.c_parser.specs.declared.error.ParseError.{ParseError}
-use Rattle.c_parser.specs.Reading.{State, Gives}
+use Rattle.c_parser.specs.Reading.{Gives}
 use Rattle.c_parser.specs.Nests.{most, state_of, seen}
 use Rattle.c_parser.specs.ReadingStmt.{statement}
 

@@ -1,5 +1,5 @@
 -- What the parameters of a declared function bring.
-use Rattle.std.specs.Prelude.{Option, Some, None, List, []}
+use Rattle.std.specs.Prelude.{Option, Some, None, []}
 use Rattle.c_parser.specs.Names.{Names}
 
 -- The names that the parameters of a declared function bring, once it is known which they are: those of the list that is the

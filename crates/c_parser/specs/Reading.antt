@@ -1,32 +1,18 @@
 -- How parts are read from the front of the tokens: each reader gives what it finds there and the state behind it, or the token at
 -- which it stops. Only private functions cite these words.
-use Rattle.std.specs.Prelude.{ℕ, zero, suc, ◌≡◌, ◌+◌, ◌-◌, ◌==◌, ◌&&◌, ◌||◌, nat_lt, nat_le, not, is_some, if◌then◌else◌, Bool, true, false, Option, Some, None, Result, Ok, Err, List, [], ◌∷◌, ◌++◌, length, drop}
-use Rattle.std.specs.declared.alloc.Global.{Global}
+use Rattle.std.specs.Prelude.{ℕ, ◌≡◌, if◌then◌else◌, Bool, true, false, Option, Some, None, Result, Ok, Err, List, [], ◌∷◌}
 use Rattle.c_lex.specs.declared.token.Token.{Token}
 use Rattle.c_lex.specs.declared.token.TokenKind.{TokenKind}
 use Rattle.c_lex.specs.declared.token.TokenKind.TheVariants as kind
 use Rattle.c_lex.specs.declared.token.Keyword.{Keyword}
-use Rattle.c_lex.specs.declared.token.Keyword.TheVariants as keyword
 use Rattle.c_lex.specs.declared.token.Mark.{Mark}
-use Rattle.c_lex.specs.declared.token.Mark.TheVariants as mark
 use Rattle.c_lex.specs.contracts.token.Mark as mark_contract
 use Rattle.c_lex.specs.contracts.token.Keyword as keyword_contract
 use denote.Enum.Bare.{sameb}
 use Rattle.c_ast.specs.declared.words.Name.{Name}
-use Rattle.c_ast.specs.declared.words.Storage.{Storage}
-use Rattle.c_ast.specs.declared.words.Qualifier.{Qualifier}
-use Rattle.c_ast.specs.declared.words.TypeWord.{TypeWord}
-use Rattle.c_ast.specs.declared.words.PrefixOp.{PrefixOp}
-use Rattle.c_ast.specs.declared.words.BinaryOp.{BinaryOp}
-use Rattle.c_ast.specs.declared.expression.Expr.{Expr}
-use Rattle.c_ast.specs.declared.declaration.Specifier.{Specifier}
-use Rattle.c_ast.specs.declared.declaration.Specs.{Specs}
-use Rattle.c_ast.specs.declared.declaration.Declarator.{Declarator}
-use Rattle.c_ast.specs.declared.declaration.Abstract.{Abstract}
-use Rattle.c_ast.specs.declared.declaration.TypeName.{TypeName}
 use Rattle.c_parser.specs.declared.error.ParseError.{ParseError}
 use Rattle.c_parser.specs.declared.error.ParseError.TheVariants as error
-use Rattle.c_parser.specs.Names.{Names, Known, is_type_in}
+use Rattle.c_parser.specs.Names.{Names}
 use Rattle.c_parser.specs.Words.{number_of}
 
 -- ---- readers

@@ -1,7 +1,6 @@
 -- How the parts of declarations are read, by what reads one level further in.
-use Rattle.std.specs.Prelude.{ℕ, zero, suc, ◌≡◌, ◌+◌, ◌-◌, ◌≤◌, ◌==◌, ◌&&◌, ◌||◌, nat_eq, nat_le, not, is_some, if◌then◌else◌, Bool, true, false, Option, Some, None, Result, Ok, Err, List, [], ◌∷◌, ◌++◌, length, take, drop}
+use Rattle.std.specs.Prelude.{ℕ, zero, suc, ◌+◌, ◌-◌, ◌&&◌, ◌||◌, nat_eq, nat_le, not, if◌then◌else◌, Bool, true, false, Option, Some, None, Ok, Err, List, [], ◌∷◌, ◌++◌, length, take, drop}
 use Rattle.c_lex.specs.declared.token.Token.{Token}
-use Rattle.c_lex.specs.declared.token.TokenKind.{TokenKind}
 use Rattle.c_lex.specs.declared.token.Keyword.TheVariants as keyword
 use Rattle.c_lex.specs.declared.token.Mark.TheVariants as mark
 use Rattle.c_ast.specs.declared.words.Name.{Name}
@@ -12,7 +11,6 @@ use Rattle.c_ast.specs.declared.words.TypeWord.TheVariants as word
 use Rattle.c_ast.specs.declared.expression.Expr.{Expr}
 use Rattle.c_ast.specs.declared.declaration.Specifier.{Specifier}
 use Rattle.c_ast.specs.declared.declaration.Specifier.TheVariants as specifier
-use Rattle.c_ast.specs.declared.declaration.Specs.{Specs}
 use Rattle.c_ast.specs.declared.declaration.StructSpec.{StructSpec}
 use Rattle.c_ast.specs.declared.declaration.StructSpec.TheVariants as a_struct
 use Rattle.c_ast.specs.declared.declaration.Member.{Member, roll-Member}
@@ -20,7 +18,6 @@ use Rattle.c_ast.specs.declared.declaration.EnumSpec.{EnumSpec}
 use Rattle.c_ast.specs.declared.declaration.EnumSpec.TheVariants as an_enum
 use Rattle.c_ast.specs.declared.declaration.Enumerator.{Enumerator}
 use Rattle.c_ast.specs.declared.declaration.Declarator.{Declarator, roll-Declarator}
-use Rattle.c_ast.specs.declared.declaration.Direct.{Direct}
 use Rattle.c_ast.specs.declared.declaration.Direct.TheVariants as direct
 use Rattle.c_ast.specs.declared.declaration.DirectSuffix.{DirectSuffix}
 use Rattle.c_ast.specs.declared.declaration.DirectSuffix.TheVariants as suffix
@@ -31,9 +28,9 @@ use Rattle.c_parser.specs.declared.grammar.Extent.TheVariants as extent
 use Rattle.c_parser.specs.Names.{Names, is_type_in, declared, name_at}
 use Rattle.c_parser.specs.Words.{number_of, storage_of, qualifier_of, word_of}
 use Rattle.c_parser.specs.Types.{times, Typed, Untyped, Words, Whole, declares_types}
-use Rattle.c_parser.specs.Owns.{Own, Open, Closed, settled}
+use Rattle.c_parser.specs.Owns.{Own, Open, settled}
 use Rattle.c_parser.specs.Grammar.{behind_pointers}
-use Rattle.c_parser.specs.Reading.{State, Fault, Unexpected, TooNested, Outcome, Reader, ◌>>=◌, is_mark, is_keyword, is_name, sees_mark, sees_keyword, tail, behind, here, expect_mark, expect_name, name_at_front}
+use Rattle.c_parser.specs.Reading.{State, Fault, Unexpected, TooNested, Reader, ◌>>=◌, is_mark, is_keyword, is_name, sees_mark, sees_keyword, tail, behind, here, expect_mark, expect_name, name_at_front}
 use Rattle.c_parser.specs.ReadingExpr.{choose}
 use Rattle.c_parser.specs.declared.grammar.ReadSpecs.{ReadSpecs}
 use Rattle.c_parser.specs.declared.grammar.ReadDeclarator.{ReadDeclarator}

@@ -1,12 +1,11 @@
 -- How an expression is read, by what reads one level further in.
-use Rattle.std.specs.Prelude.{ℕ, zero, suc, ◌≡◌, ◌+◌, ◌-◌, ◌==◌, ◌&&◌, ◌||◌, nat_eq, not, is_some, if◌then◌else◌, Bool, true, false, Option, Some, None, Result, Ok, Err, List, [], ◌∷◌, ◌++◌, length, drop}
+use Rattle.std.specs.Prelude.{ℕ, zero, suc, ◌&&◌, ◌||◌, nat_eq, not, is_some, if◌then◌else◌, Bool, true, false, Option, Some, None, Ok, Err, List, [], ◌∷◌, ◌++◌, length}
 use Rattle.c_lex.specs.declared.token.Token.{Token}
 use Rattle.c_lex.specs.declared.token.TokenKind.{TokenKind}
 use Rattle.c_lex.specs.declared.token.TokenKind.TheVariants as kind
 use Rattle.c_lex.specs.declared.token.Keyword.TheVariants as keyword
 use Rattle.c_lex.specs.declared.token.Mark.{Mark}
 use Rattle.c_lex.specs.declared.token.Mark.TheVariants as mark
-use Rattle.c_ast.specs.declared.words.Name.{Name}
 use Rattle.c_ast.specs.declared.words.BinaryOp.{BinaryOp}
 use Rattle.c_ast.specs.declared.words.AssignOp.{AssignOp}
 use Rattle.c_ast.specs.declared.words.PrefixOp.{PrefixOp}
@@ -21,7 +20,7 @@ use Rattle.c_parser.specs.declared.grammar.Extent.TheVariants as extent
 use Rattle.c_parser.specs.Names.{Names, is_type_in, name_at}
 use Rattle.c_parser.specs.Words.{number_of, number_type_of, storage_of, qualifier_of, word_of, prefix_of, operator_of, assign_of}
 use Rattle.c_parser.specs.Grammar.{postfixed, linked, listed}
-use Rattle.c_parser.specs.Reading.{State, Fault, Unexpected, TooNested, Outcome, Reader, ◌>>=◌, same_mark, same_keyword, is_mark, is_keyword, is_name, sees_mark, sees_keyword, tail, behind, here, expect_mark, expect_name}
+use Rattle.c_parser.specs.Reading.{State, Unexpected, TooNested, Outcome, Reader, ◌>>=◌, same_mark, same_keyword, is_keyword, is_name, sees_mark, sees_keyword, tail, behind, here, expect_mark, expect_name}
 use Rattle.c_parser.specs.Inner.{Inner}
 
 -- ---- what a token may begin

@@ -1,5 +1,5 @@
 -- How initialisers, declarations, statements and units are read.
-use Rattle.std.specs.Prelude.{ℕ, zero, suc, ◌≡◌, ◌-◌, ◌&&◌, ◌||◌, nat_eq, not, if◌then◌else◌, Bool, true, false, Option, Some, None, Result, Ok, Err, List, [], ◌∷◌, ◌++◌, length, drop}
+use Rattle.std.specs.Prelude.{ℕ, zero, suc, ◌-◌, ◌&&◌, ◌||◌, nat_eq, not, if◌then◌else◌, Bool, true, false, Option, Some, None, Ok, Err, List, [], ◌∷◌, ◌++◌, length, drop}
 use Rattle.c_lex.specs.declared.token.Token.{Token}
 use Rattle.c_lex.specs.declared.token.TokenKind.{TokenKind}
 use Rattle.c_lex.specs.declared.token.TokenKind.TheVariants as kind
@@ -8,8 +8,6 @@ use Rattle.c_lex.specs.declared.token.Keyword.TheVariants as keyword
 use Rattle.c_lex.specs.declared.token.Mark.{Mark}
 use Rattle.c_lex.specs.declared.token.Mark.TheVariants as mark
 use Rattle.c_ast.specs.declared.expression.Expr.{Expr}
-use Rattle.c_ast.specs.declared.declaration.Specifier.{Specifier}
-use Rattle.c_ast.specs.declared.declaration.Specs.{Specs}
 use Rattle.c_ast.specs.declared.declaration.Init.{Init}
 use Rattle.c_ast.specs.declared.declaration.Init.TheVariants as an_init
 use Rattle.c_ast.specs.declared.declaration.InitDeclarator.{InitDeclarator}
@@ -29,7 +27,7 @@ use Rattle.c_parser.specs.declared.grammar.ReadDeclarator.{ReadDeclarator}
 use Rattle.c_parser.specs.declared.statements.Head.{Head}
 use Rattle.c_parser.specs.Names.{Names, declared, nothing}
 use Rattle.c_parser.specs.Owns.{own_names}
-use Rattle.c_parser.specs.Reading.{State, Fault, Unexpected, TooNested, Outcome, Reader, ◌>>=◌, sees_mark, sees_keyword, tail, behind, here, expect_mark, expect_keyword}
+use Rattle.c_parser.specs.Reading.{State, Fault, Unexpected, Outcome, Reader, ◌>>=◌, sees_mark, sees_keyword, tail, behind, here, expect_mark, expect_keyword}
 use Rattle.c_parser.specs.ReadingExpr.{sees_type, sees_expr}
 use Rattle.c_parser.specs.ReadingDecl.{too_deep}
 use Rattle.c_parser.specs.Levels.{readers}

@@ -1,11 +1,13 @@
 -- Which token shows that tokens are no unit.
-use Rattle.std.specs.Prelude.{ℕ, suc, ◌≡◌, ◌<◌, ◌≤◌, ◌⊎◌, ◌++◌, Option, Some, None, List, length, take}
+use Rattle.std.specs.Prelude.{ℕ, suc, true, false, ◌≡◌, ◌<◌, ◌≤◌, ◌⊎◌, ◌++◌, Option, Some, None, List, length, take}
 use Rattle.c_lex.specs.declared.token.Token.{Token}
 use Rattle.c_ast.specs.declared.declaration.Unit.{Unit as AUnit}
 use Rattle.c_parser.specs.declared.error.ParseError.{ParseError}
 use Rattle.c_parser.specs.declared.error.ParseError.TheVariants as error
 use Rattle.c_parser.specs.Grammar.{Parses, ParsesWithin}
 use Rattle.c_parser.specs.Nesting.{Begins}
+use Rattle.c_parser.specs.Brackets.{closes_innermost}
+use Rattle.c_parser.specs.Places.{HasPlace}
 
 -- some unit begins with these tokens, whatever its nesting and its chains
 pub record BeginsSome (front : List Token) : Type 0 where
@@ -28,6 +30,14 @@ pub record IsRefused (limit most : ℕ) (ts : List Token) (k : ℕ) : Type 0 whe
   pub before : Begins limit most (take k ts)
   pub stops : GoesOn limit most ts k → ⊥
 
+-- It isn't expected: no unit at all goes on with it, and its place isn't too deep, or it closes the innermost bracket.
+abbrev pub IsUnexpected : ℕ → ℕ → List Token → ℕ → Type 0
+IsUnexpected limit most ts k = (GoesOnSomehow ts k → ⊥) × ((closes_innermost ts k ≡ true) ⊎ HasPlace limit most ts k)
+
+-- It stands too deep: some unit goes on with it, or its place is too deep for any token.
+abbrev pub IsTooNested : ℕ → ℕ → List Token → ℕ → Type 0
+IsTooNested limit most ts k = GoesOnSomehow ts k ⊎ ((closes_innermost ts k ≡ false) × (HasPlace limit most ts k → ⊥))
+
 -- the token that an error tells
 abbrev pub token_of : ParseError → Option ℕ
 token_of (error.Unexpected k) = Some k
@@ -39,3 +49,9 @@ abbrev pub unexpected_of : ParseError → Option ℕ
 unexpected_of (error.Unexpected k) = Some k
 unexpected_of (error.TooNested k) = None
 unexpected_of error.Memory = None
+
+-- the token that an error tells as one that stands too deep
+abbrev pub nested_of : ParseError → Option ℕ
+nested_of (error.Unexpected k) = None
+nested_of (error.TooNested k) = Some k
+nested_of error.Memory = None

@@ -5,7 +5,7 @@ ghost use Rattle.std.specs.Prelude.{◌≡◌, ◌<◌, ◌≤◌, ◌^◌, ℕ,
 ghost use Rattle.c_lex.specs.declared.token.Token.{Token};
 ghost use Rattle.c_ast.specs.declared.declaration.Unit.{Unit as AUnit};
 ghost use Rattle.c_parser.specs.Grammar.{Parses, ParsesWithin};
-ghost use Rattle.c_parser.specs.Refusals.{GoesOn, GoesOnSomehow, IsRefused, token_of, unexpected_of};
+ghost use Rattle.c_parser.specs.Refusals.{GoesOn, IsRefused, IsUnexpected, IsTooNested, token_of, unexpected_of, nested_of};
 
 mod cursor;
 mod declarators;
@@ -43,8 +43,11 @@ pub fn parse(alloc: Global, tokens: &[Token]) -> Result<Unit, ParseError>
     ensures parses { IfOk result (λ unit. ParsesWithin 64 512 tokens.now unit) }
     // A unit within the limits begins with the tokens before the one that is told, and none goes on with that one.
     ensures refused { IfErr result (λ e. IfSome (token_of e) (λ k. IsRefused 64 512 tokens.now k)) }
-    // A token that is told as unexpected is one that no unit at all goes on with.
-    ensures unexpected { IfErr result (λ e. IfSome (unexpected_of e) (λ k. GoesOnSomehow tokens.now k → ⊥)) }
+    // A token that is told as unexpected is one that no unit at all goes on with, and its place isn't too deep, or it closes the
+    // innermost bracket.
+    ensures unexpected { IfErr result (λ e. IfSome (unexpected_of e) (λ k. IsUnexpected 64 512 tokens.now k)) }
+    // A token that is told as nested too deeply is one that some unit goes on with, or its place is too deep for any token.
+    ensures nested { IfErr result (λ e. IfSome (nested_of e) (λ k. IsTooNested 64 512 tokens.now k)) }
 {
     let read = units::unit(alloc, tokens.len() as u32, tokens, LIMIT);
     nested::settled(alloc, tokens, read)
@@ -59,4 +62,9 @@ pub fn one_unit()
 pub fn one_refusal()
     ensures goes_on { (limit most : ℕ) (ts : List Token) (unit : AUnit) → ParsesWithin limit most ts unit → (k : ℕ) → k ≤ length ts → GoesOn limit most ts k }
     ensures one { (limit most : ℕ) (ts : List Token) (a b : ℕ) → IsRefused limit most ts a → IsRefused limit most ts b → a ≡ b }
+{}
+
+/// A law: no token is both unexpected and nested too deeply.
+pub fn one_cause()
+    ensures { (limit most : ℕ) (ts : List Token) (k : ℕ) → IsUnexpected limit most ts k → IsTooNested limit most ts k → ⊥ }
 {}

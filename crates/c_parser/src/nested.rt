@@ -1,19 +1,40 @@
-//! What is told of a token where the limit of nesting is passed.
+//! What is told of a token that isn't read: whether it isn't expected or stands too deep.
 
-ghost use Rattle.std.specs.Prelude.{◌≡◌, ◌≤◌, ◌<◌, ◌^◌, [], length, IfOk, OnOk};
-ghost use Rattle.c_parser.specs.Reading.{IsFault};
-ghost use Rattle.c_parser.specs.Told.{met, wanted_behind, closes_innermost, told, Settles};
+ghost use Rattle.std.specs.Prelude.{◌≡◌, ◌≤◌, ◌<◌, ◌^◌, [], ◌∷◌, ◌++◌, take, length, IfOk, OnOk};
+ghost use Rattle.c_parser.specs.Reading.{IsFault, Gives};
+ghost use Rattle.c_parser.specs.Nests.{most};
+ghost use Rattle.c_parser.specs.ReadingStmt.{unit};
+ghost use Rattle.c_parser.specs.Brackets.{met, wanted_behind, closes_innermost};
+ghost use Rattle.c_parser.specs.Places.{kinds, plain};
+ghost use Rattle.c_parser.specs.Told.{limit, takes_token, IsTaken, has_place, placed, told, Settles};
 
-use crate::ParseError;
 use crate::cursor::sees_mark;
 use crate::units::unit;
+use crate::{LIMIT, ParseError};
+use am_base::Bytes;
 use c_ast::Unit;
-use c_lex::{Mark, Token, TokenKind};
+use c_lex::{Headers, Keyword, Mark, NumberType, Token, TokenKind};
 use std::alloc::{AllocError, Global};
 
 /// How deep tokens may nest where it is to be seen whether a token is expected: one that stands directly behind the limit stands
 /// within this one.
 const DEEPER: u8 = 68;
+
+/// Kinds of tokens of which one can stand at each place of a unit.
+const KINDS: [TokenKind; 12] = [
+    TokenKind::Mark(Mark::Question),
+    TokenKind::Number(NumberType::Int),
+    TokenKind::Name,
+    TokenKind::Keyword(Keyword::Int),
+    TokenKind::Mark(Mark::Semicolon),
+    TokenKind::Mark(Mark::OpenBrace),
+    TokenKind::Mark(Mark::Star),
+    TokenKind::Mark(Mark::OpenBracket),
+    TokenKind::Mark(Mark::Comma),
+    TokenKind::Mark(Mark::Colon),
+    TokenKind::Mark(Mark::OpenParen),
+    TokenKind::Keyword(Keyword::While),
+];
 
 /// One more token: an opening bracket wants the one that closes it, and a closing one ends the innermost.
 fn meet(wanted: &mut Vec<Mark>, kind: TokenKind) -> Result<(), AllocError>
@@ -32,7 +53,7 @@ fn meet(wanted: &mut Vec<Mark>, kind: TokenKind) -> Result<(), AllocError>
 }
 
 /// The brackets that are wanted behind these tokens, the innermost last.
-#[tactic(auto, unfolding(crate::specs::Told::wanted_behind))]
+#[tactic(auto, unfolding(crate::specs::Brackets::wanted_behind))]
 fn wanted_behind(alloc: Global, tokens: &[Token]) -> Result<Vec<Mark>, AllocError>
     ensures { IfOk result (λ wanted. wanted.items ≡ wanted_behind [] tokens.now) }
 {
@@ -46,7 +67,7 @@ fn wanted_behind(alloc: Global, tokens: &[Token]) -> Result<Vec<Mark>, AllocErro
 }
 
 /// Whether the token of this number closes the innermost bracket that is open before it.
-#[tactic(auto, unfolding(crate::specs::Told::closes_innermost))]
+#[tactic(auto, unfolding(crate::specs::Brackets::closes_innermost))]
 fn closes_innermost(alloc: Global, tokens: &[Token], token: u32) -> Result<bool, AllocError>
     ensures { IfOk result (λ closes. closes ≡ closes_innermost tokens.now token) }
 {
@@ -60,22 +81,129 @@ fn closes_innermost(alloc: Global, tokens: &[Token], token: u32) -> Result<bool,
     Ok(sees_mark(*innermost, rest))
 }
 
-/// The error for the token of this number: a bracket that closes the innermost one has the nesting of its opener, so it isn't
-/// nested too deeply but unexpected.
+/// A token of this kind.
+fn plain(alloc: Global, kind: TokenKind) -> Token
+    ensures { result ≡ plain kind }
+{
+    Token {
+        kind,
+        line: 0,
+        value: 0,
+        text: Bytes::new(alloc),
+        headers: Headers {
+            mpi: false,
+            stdio: false,
+            stdlib: false,
+            strings: false,
+        },
+    }
+}
+
+fn copy_of(alloc: Global, token: &Token) -> Result<Token, AllocError>
+    ensures { IfOk result (λ copy. copy ≡ token.now) }
+{
+    let text = Bytes::from_slice(alloc, token.text.as_slice())?;
+    Ok(Token {
+        kind: token.kind,
+        line: token.line,
+        value: token.value,
+        text,
+        headers: token.headers,
+    })
+}
+
+/// Copies the tokens.
+fn copies_of(alloc: Global, tokens: &[Token]) -> Result<Vec<Token>, AllocError>
+    ensures { IfOk result (λ copies. copies.items ≡ tokens.now) }
+{
+    let mut copies = Vec::new(alloc);
+    let mut rest = tokens;
+    'tokens: while let Some((token, others)) = rest.split_first() {
+        copies.push(copy_of(alloc, token)?)?;
+        rest = others;
+    }
+    Ok(copies)
+}
+
+/// Whether the reading took the token of this number.
+fn takes_token(token: u32, read: Result<Unit, ParseError>) -> Result<bool, AllocError>
+    ensures { IsTaken token read result }
+{
+    match read {
+        Ok(_) => Ok(true),
+        Err(ParseError::Unexpected { token: other } | ParseError::TooNested { token: other }) => {
+            Ok(token < other)
+        }
+        Err(ParseError::Memory) => Err(AllocError),
+    }
+}
+
+/// Whether a token of this kind can stand behind the others, which are fewer than its number says.
+fn can_stand(
+    alloc: Global,
+    trial: &mut Vec<Token>,
+    token: u32,
+    kind: TokenKind,
+) -> Result<bool, AllocError>
+    ensures same { OnOk result (trial.new.items ≡ trial.old.items) }
+    ensures stands { IfOk result (λ stands. stands ≡ takes_token token (unit most limit (trial.old.items ++ plain kind ∷ []))) }
+{
+    trial.push(plain(alloc, kind))?;
+    let Ok(total) = u32::try_from(trial.len()) else {
+        return Err(AllocError);
+    };
+    let read = unit(alloc, total, trial.as_slice(), LIMIT);
+    let _last = trial.pop();
+    takes_token(token, read)
+}
+
+/// Whether a token can stand at this place within the limits.
+#[tactic(auto, unfolding(crate::specs::Told::has_place))]
+fn has_place(alloc: Global, tokens: &[Token], token: u32) -> Result<bool, AllocError>
+    ensures { IfOk result (λ has. has ≡ has_place tokens.now token) }
+{
+    let Some((before, _)) = tokens.split_at_checked(token as usize) else {
+        return Err(AllocError);
+    };
+    let mut trial = copies_of(alloc, before)?;
+    let mut rest: &[TokenKind] = &KINDS;
+    'kinds: while let Some((kind, others)) = rest.split_first() {
+        if can_stand(alloc, &mut trial, token, *kind)? {
+            return Ok(true);
+        }
+        rest = others;
+    }
+    Ok(false)
+}
+
+/// The error for a token that nothing goes on with: a bracket that closes the innermost one has the nesting of its opener, and any
+/// other token that of its place.
+#[tactic(auto, unfolding(crate::specs::Told::placed))]
+fn placed(alloc: Global, tokens: &[Token], token: u32) -> ParseError
+    ensures { IsFault result (placed tokens.now token) }
+{
+    match closes_innermost(alloc, tokens, token) {
+        Err(_) => return ParseError::Memory,
+        Ok(true) => return ParseError::Unexpected { token },
+        Ok(false) => {}
+    }
+    match has_place(alloc, tokens, token) {
+        Err(_) => ParseError::Memory,
+        Ok(true) => ParseError::Unexpected { token },
+        Ok(false) => ParseError::TooNested { token },
+    }
+}
+
+/// The error for a token that was read as too deep: it is so if it is expected where there is more room.
 #[tactic(auto, unfolding(crate::specs::Told::told))]
 fn told(alloc: Global, tokens: &[Token], token: u32) -> ParseError
     requires { length tokens.now < 2 ^ 32 }
     ensures { IsFault result (told tokens.now token) }
 {
-    match closes_innermost(alloc, tokens, token) {
-        Err(_) => return ParseError::Memory,
-        Ok(false) => return ParseError::TooNested { token },
-        Ok(true) => {}
-    }
     match unit(alloc, tokens.len() as u32, tokens, DEEPER) {
         Err(ParseError::Memory) => ParseError::Memory,
         Err(ParseError::Unexpected { token: other }) if other == token => {
-            ParseError::Unexpected { token }
+            placed(alloc, tokens, token)
         }
         _ => ParseError::TooNested { token },
     }
@@ -92,6 +220,7 @@ pub fn settled(
 {
     match read {
         Err(ParseError::TooNested { token }) => Err(told(alloc, tokens, token)),
+        Err(ParseError::Unexpected { token }) => Err(placed(alloc, tokens, token)),
         other => other,
     }
 }

@@ -6,7 +6,9 @@ use std::process::Abort;
 use std::test::Fail;
 
 /// Fronts of units, which can all go on after each of their tokens.
-const FRONTS: [&str; 24] = [
+const FRONTS: [&str; 26] = [
+    "extern int x = 1, *y[2] = { 1, }",
+    "struct S { int x; } s",
     "int f() { ;",
     "int f() { x + 1;",
     "int f() { { int x[2] = { 1, 2 }; x; }",

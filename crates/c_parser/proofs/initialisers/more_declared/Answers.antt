@@ -1,4 +1,3 @@
-use Rattle.std.proofs.Common.{refl, arith}
 use Rattle.c_parser.specs.Nests.{most, state_of}
 use Rattle.c_parser.proofs.StmtSteps.{declared_on}
 use Rattle.c_parser.proofs.initialisers.more_declared.Goals as goal

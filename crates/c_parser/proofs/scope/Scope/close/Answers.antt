@@ -1,6 +1,5 @@
-use Rattle.std.proofs.Common.{◌≡◌, ◌≤◌, ◌-◌, ◌++◌, length, take, drop, sym, ap, ◌∙◌, subst, arith}
+use Rattle.std.proofs.Common.{◌-◌, ◌++◌, length, take, drop, ap, ◌∙◌, arith}
 use Rattle.std.proofs.lemmas.List.{append-nil}
-use Rattle.c_parser.specs.declared.scope.KnownName.{KnownName}
 use Rattle.c_parser.specs.Names.{Names, of_known}
 use Rattle.c_parser.proofs.ScopeLaws.{known_length, known_left, known_inner, left_behind}
 use Rattle.c_parser.proofs.scope.Scope.close.Goals as goal

@@ -1,5 +1,5 @@
 use Rattle.std.proofs.Common.{[], ◌∷◌, ◌++◌, sym, ap, ◌∙◌}
-use Rattle.c_parser.specs.Names.{Names, of_known, declared}
+use Rattle.c_parser.specs.Names.{Names, declared}
 use Rattle.c_parser.proofs.ScopeLaws.{known_append}
 use Rattle.c_parser.proofs.scope.Scope.declare_all.Goals as goal
 

@@ -1,5 +1,5 @@
 use Rattle.std.proofs.Common.{◌≡◌, ◌++◌}
-use Rattle.c_parser.specs.Names.{Names, of_known}
+use Rattle.c_parser.specs.Names.{of_known}
 use Rattle.c_parser.proofs.scope.Scope.declare_all.Given as goal
 
 abbrev pub invariant-loop-known : goal.invariant-loop-known

@@ -1,4 +1,4 @@
-use Rattle.std.proofs.Common.{Bool, Option, Some, None, sym, ap, ◌∙◌}
+use Rattle.std.proofs.Common.{Bool, Option, sym, ap, ◌∙◌}
 use Rattle.std.specs.Option.{unwrap_or}
 use Rattle.c_parser.specs.Names.{Names, is_type_in, is_type_of, of_known}
 use Rattle.c_parser.proofs.ScopeLaws.{type_by_meaning}

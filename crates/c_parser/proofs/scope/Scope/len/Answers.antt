@@ -1,4 +1,4 @@
-use Rattle.std.proofs.Common.{◌≡◌, length, sym, ap, ◌∙◌}
+use Rattle.std.proofs.Common.{length, sym, ap, ◌∙◌}
 use Rattle.c_parser.proofs.ScopeLaws.{known_length}
 use Rattle.c_parser.proofs.scope.Scope.len.Goals as goal
 

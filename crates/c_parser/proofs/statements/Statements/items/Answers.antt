@@ -1,4 +1,4 @@
-use Rattle.std.proofs.Common.{sym, ◌∙◌, arith}
+use Rattle.std.proofs.Common.{sym, ◌∙◌}
 use Rattle.c_parser.specs.Nests.{most, state_of}
 use Rattle.c_parser.proofs.StmtSteps.{items_on}
 use Rattle.c_parser.proofs.statements.Statements.items.Goals as goal
