@@ -3,11 +3,11 @@ use Rattle.std.specs.Prelude.{ℕ, ◌≡◌, Result}
 use Rattle.std.specs.declared.alloc.Global.{Global}
 use denote.Ref.{MutBor}
 use Rattle.c_ast.specs.declared.statement.Stmt.{Stmt}
-use Rattle.c_parser.specs.declared.cursor.Cursor.{Cursor}
-use Rattle.c_parser.specs.declared.error.ParseError.{ParseError}
-use Rattle.c_parser.specs.Reading.{Gives}
-use Rattle.c_parser.specs.Nests.{most, state_of, seen}
-use Rattle.c_parser.specs.ReadingStmt.{statement}
+use Rattle.c_grammar.specs.declared.cursor.Cursor.{Cursor}
+use Rattle.c_grammar.specs.declared.error.ParseError.{ParseError}
+use Rattle.c_grammar.specs.Reading.{Gives}
+use Rattle.c_grammar.specs.Nests.{most, state_of, seen}
+use Rattle.c_grammar.specs.ReadingStmt.{statement}
 
 pub record ReadsStmt (room : ℕ) (pre : Global → MutBor Cursor → ℕ → Type 0)
     (post : Global → MutBor Cursor → ℕ → Result Stmt ParseError → MutBor Cursor → Type 0) : Type 0 where

@@ -1,31 +1,17 @@
 //! The parser of the grammar: from tokens to a tree.
 #![tactic(auto)]
 
-ghost use Rattle.std.specs.Prelude.{◌≡◌, ◌<◌, ◌≤◌, ◌^◌, ℕ, List, length, IfOk, IfErr, IfSome};
-ghost use Rattle.c_lex.specs.declared.token.Token.{Token};
-ghost use Rattle.c_ast.specs.declared.declaration.Unit.{Unit as AUnit};
-ghost use Rattle.c_parser.specs.Grammar.{Parses, ParsesWithin};
-ghost use Rattle.c_parser.specs.Refusals.{GoesOn, IsRefused, IsUnexpected, IsTooNested, token_of, unexpected_of, nested_of};
+ghost use Rattle.std.specs.Prelude.{◌<◌, ◌^◌, length, IfOk, IfErr, IfSome};
+ghost use Rattle.c_grammar.specs.Grammar.{ParsesWithin};
+ghost use Rattle.c_grammar.specs.Refusals.{IsRefused, IsUnexpected, IsTooNested, token_of, unexpected_of, nested_of};
 
-mod cursor;
-mod declarators;
-mod error;
-mod expressions;
-mod grammar;
-mod initialisers;
-mod levels;
 mod nested;
-mod operators;
-mod parameters;
-mod scope;
-mod specifiers;
 mod statements;
-mod structures;
 mod units;
 
 use c_ast::Unit;
+pub use c_grammar::ParseError;
 use c_lex::Token;
-pub use error::ParseError;
 use std::alloc::Global;
 
 /// How deep tokens may nest.
@@ -52,19 +38,3 @@ pub fn parse(alloc: Global, tokens: &[Token]) -> Result<Unit, ParseError>
     let read = units::unit(alloc, tokens.len() as u32, tokens, LIMIT);
     nested::settled(alloc, tokens, read)
 }
-
-/// A law: tokens are of one unit at most.
-pub fn one_unit()
-    ensures { (ts : List Token) (a b : AUnit) → Parses ts a → Parses ts b → a ≡ b }
-{}
-
-/// A law: all of a unit within limits goes on, and just one token is the first that is refused.
-pub fn one_refusal()
-    ensures goes_on { (limit most : ℕ) (ts : List Token) (unit : AUnit) → ParsesWithin limit most ts unit → (k : ℕ) → k ≤ length ts → GoesOn limit most ts k }
-    ensures one { (limit most : ℕ) (ts : List Token) (a b : ℕ) → IsRefused limit most ts a → IsRefused limit most ts b → a ≡ b }
-{}
-
-/// A law: no token is both unexpected and nested too deeply.
-pub fn one_cause()
-    ensures { (limit most : ℕ) (ts : List Token) (k : ℕ) → IsUnexpected limit most ts k → IsTooNested limit most ts k → ⊥ }
-{}

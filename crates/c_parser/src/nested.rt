@@ -1,18 +1,18 @@
 //! What is told of a token that isn't read: whether it isn't expected or stands too deep.
 
 ghost use Rattle.std.specs.Prelude.{◌≡◌, ◌≤◌, ◌<◌, ◌^◌, [], ◌∷◌, ◌++◌, take, length, IfOk, OnOk};
-ghost use Rattle.c_parser.specs.Reading.{IsFault, Gives};
-ghost use Rattle.c_parser.specs.Nests.{most};
-ghost use Rattle.c_parser.specs.ReadingStmt.{unit};
-ghost use Rattle.c_parser.specs.Brackets.{met, wanted_behind, closes_innermost};
-ghost use Rattle.c_parser.specs.Places.{kinds, plain};
-ghost use Rattle.c_parser.specs.Told.{limit, takes_token, IsTaken, has_place, placed, told, Settles};
+ghost use Rattle.c_grammar.specs.Reading.{IsFault, Gives};
+ghost use Rattle.c_grammar.specs.Nests.{most};
+ghost use Rattle.c_grammar.specs.ReadingStmt.{unit};
+ghost use Rattle.c_grammar.specs.Brackets.{met, wanted_behind, closes_innermost};
+ghost use Rattle.c_grammar.specs.Places.{kinds, plain};
+ghost use Rattle.c_grammar.specs.Told.{limit, takes_token, IsTaken, has_place, placed, told, Settles};
 
-use crate::cursor::sees_mark;
+use crate::LIMIT;
 use crate::units::unit;
-use crate::{LIMIT, ParseError};
 use am_base::Bytes;
 use c_ast::Unit;
+use c_grammar::{ParseError, sees_mark};
 use c_lex::{Headers, Keyword, Mark, NumberType, Token, TokenKind};
 use std::alloc::{AllocError, Global};
 
@@ -53,7 +53,7 @@ fn meet(wanted: &mut Vec<Mark>, kind: TokenKind) -> Result<(), AllocError>
 }
 
 /// The brackets that are wanted behind these tokens, the innermost last.
-#[tactic(auto, unfolding(crate::specs::Brackets::wanted_behind))]
+#[tactic(auto, unfolding(c_grammar::specs::Brackets::wanted_behind))]
 fn wanted_behind(alloc: Global, tokens: &[Token]) -> Result<Vec<Mark>, AllocError>
     ensures { IfOk result (λ wanted. wanted.items ≡ wanted_behind [] tokens.now) }
 {
@@ -67,7 +67,7 @@ fn wanted_behind(alloc: Global, tokens: &[Token]) -> Result<Vec<Mark>, AllocErro
 }
 
 /// Whether the token of this number closes the innermost bracket that is open before it.
-#[tactic(auto, unfolding(crate::specs::Brackets::closes_innermost))]
+#[tactic(auto, unfolding(c_grammar::specs::Brackets::closes_innermost))]
 fn closes_innermost(alloc: Global, tokens: &[Token], token: u32) -> Result<bool, AllocError>
     ensures { IfOk result (λ closes. closes ≡ closes_innermost tokens.now token) }
 {
@@ -158,7 +158,7 @@ fn can_stand(
 }
 
 /// Whether a token can stand at this place within the limits.
-#[tactic(auto, unfolding(crate::specs::Told::has_place))]
+#[tactic(auto, unfolding(c_grammar::specs::Told::has_place))]
 fn has_place(alloc: Global, tokens: &[Token], token: u32) -> Result<bool, AllocError>
     ensures { IfOk result (λ has. has ≡ has_place tokens.now token) }
 {
@@ -178,7 +178,7 @@ fn has_place(alloc: Global, tokens: &[Token], token: u32) -> Result<bool, AllocE
 
 /// The error for a token that nothing goes on with: a bracket that closes the innermost one has the nesting of its opener, and any
 /// other token that of its place.
-#[tactic(auto, unfolding(crate::specs::Told::placed))]
+#[tactic(auto, unfolding(c_grammar::specs::Told::placed))]
 fn placed(alloc: Global, tokens: &[Token], token: u32) -> ParseError
     ensures { IsFault result (placed tokens.now token) }
 {
@@ -195,7 +195,7 @@ fn placed(alloc: Global, tokens: &[Token], token: u32) -> ParseError
 }
 
 /// The error for a token that was read as too deep: it is so if it is expected where there is more room.
-#[tactic(auto, unfolding(crate::specs::Told::told))]
+#[tactic(auto, unfolding(c_grammar::specs::Told::told))]
 fn told(alloc: Global, tokens: &[Token], token: u32) -> ParseError
     requires { length tokens.now < 2 ^ 32 }
     ensures { IsFault result (told tokens.now token) }

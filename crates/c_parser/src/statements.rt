@@ -2,26 +2,21 @@
 
 ghost use Rattle.std.specs.Prelude.{◌≡◌, ◌-◌, ◌<◌, Some, [], length};
 ghost use Rattle.c_ast.specs.declared.statement.Stmt.TheVariants.{Break, Continue};
-ghost use Rattle.c_parser.specs.Reading.{Gives};
-ghost use Rattle.c_parser.specs.Nests.{most, state_of, seen, error_of};
+ghost use Rattle.c_grammar.specs.Reading.{Gives};
+ghost use Rattle.c_grammar.specs.Nests.{most, state_of, seen, error_of};
 ghost use Rattle.c_parser.specs.NestsStmt.{ReadsStmt};
-ghost use Rattle.c_parser.specs.ReadingExpr.{sees_type};
-ghost use Rattle.c_parser.specs.ReadingStmt.{optional, bracketed, for_start, for_head, if_with, while_with, switch_with, do_with, for_with, case_with, default_with, word_alone, return_with, express_with, keyword_at, starts_simple, sees_simple, cramped, simple, by_keyword, item, items, block_with, statement};
+ghost use Rattle.c_grammar.specs.ReadingExpr.{sees_type};
+ghost use Rattle.c_grammar.specs.ReadingStmt.{optional, bracketed, for_start, for_head, if_with, while_with, switch_with, do_with, for_with, case_with, default_with, word_alone, return_with, express_with, keyword_at, starts_simple, sees_simple, cramped, simple, by_keyword, item, items, block_with, statement};
 
-use crate::ParseError;
-use crate::cursor::{Cursor, sees_mark};
-use crate::grammar::Extent;
-use crate::initialisers::{decl, leave};
-use crate::levels::expr;
-use crate::operators::{sees_expr, sees_type};
-use crate::scope::Scope;
 use c_ast::{BlockItem, Expr, ForStart, Stmt};
+use c_grammar::{Cursor, Extent, Head, ParseError, Scope, sees_expr, sees_mark, sees_type};
 use c_lex::{Keyword, Mark, Token, TokenKind};
+use c_phrases::{decl, expr, leave};
 use sqlite_items::{Boxed, Items};
 use std::alloc::Global;
 
 /// Reads an expression, if there is one, and this punctuator.
-#[tactic(auto, unfolding(crate::specs::ReadingStmt::optional))]
+#[tactic(auto, unfolding(c_grammar::specs::ReadingStmt::optional))]
 fn optional(
     alloc: Global,
     cursor: &mut Cursor<'_>,
@@ -41,7 +36,7 @@ fn optional(
 }
 
 /// Reads an expression in parentheses, by the room inside of them.
-#[tactic(auto, unfolding(crate::specs::ReadingStmt::bracketed))]
+#[tactic(auto, unfolding(c_grammar::specs::ReadingStmt::bracketed))]
 fn test(alloc: Global, cursor: &mut Cursor<'_>, room: u8) -> Result<Expr, ParseError>
     ensures total { cursor.new.total ≡ cursor.old.total }
     ensures reads { Gives (seen cursor.new) result (bracketed cursor.old.total most room (state_of cursor.old)) }
@@ -53,7 +48,7 @@ fn test(alloc: Global, cursor: &mut Cursor<'_>, room: u8) -> Result<Expr, ParseE
 }
 
 /// Reads what stands first in the parentheses of a `for`.
-#[tactic(auto, unfolding(crate::specs::ReadingStmt::for_start))]
+#[tactic(auto, unfolding(c_grammar::specs::ReadingStmt::for_start))]
 fn for_start(alloc: Global, cursor: &mut Cursor<'_>, room: u8) -> Result<ForStart, ParseError>
     ensures total { cursor.new.total ≡ cursor.old.total }
     ensures reads { Gives (seen cursor.new) result (for_start cursor.old.total most room (state_of cursor.old)) }
@@ -66,16 +61,8 @@ fn for_start(alloc: Global, cursor: &mut Cursor<'_>, room: u8) -> Result<ForStar
     Ok(ForStart::Expression(start))
 }
 
-/// What stands in the parentheses of a `for`.
-#[derive(Drop)]
-pub struct Head {
-    pub start: ForStart,
-    pub test: Option<Expr>,
-    pub step: Option<Expr>,
-}
-
 /// Reads what stands in the parentheses of a `for`, and the one that closes them.
-#[tactic(auto, unfolding(crate::specs::ReadingStmt::for_head))]
+#[tactic(auto, unfolding(c_grammar::specs::ReadingStmt::for_head))]
 fn for_head(alloc: Global, cursor: &mut Cursor<'_>, room: u8) -> Result<Head, ParseError>
     ensures total { cursor.new.total ≡ cursor.old.total }
     ensures reads { Gives (seen cursor.new) result (for_head cursor.old.total most room (state_of cursor.old)) }
@@ -90,7 +77,7 @@ fn for_head(alloc: Global, cursor: &mut Cursor<'_>, room: u8) -> Result<Head, Pa
 }
 
 /// Reads what is behind `break` (C11, 6.8.6.3).
-#[tactic(auto, unfolding(crate::specs::ReadingStmt::word_alone))]
+#[tactic(auto, unfolding(c_grammar::specs::ReadingStmt::word_alone))]
 fn behind_break(cursor: &mut Cursor<'_>, token: u32) -> Result<Stmt, ParseError>
     ensures total { cursor.new.total ≡ cursor.old.total }
     ensures reads { Gives (seen cursor.new) result (word_alone cursor.old.total (Break token) (state_of cursor.old)) }
@@ -100,7 +87,7 @@ fn behind_break(cursor: &mut Cursor<'_>, token: u32) -> Result<Stmt, ParseError>
 }
 
 /// Reads what is behind `continue` (C11, 6.8.6.2).
-#[tactic(auto, unfolding(crate::specs::ReadingStmt::word_alone))]
+#[tactic(auto, unfolding(c_grammar::specs::ReadingStmt::word_alone))]
 fn behind_continue(cursor: &mut Cursor<'_>, token: u32) -> Result<Stmt, ParseError>
     ensures total { cursor.new.total ≡ cursor.old.total }
     ensures reads { Gives (seen cursor.new) result (word_alone cursor.old.total (Continue token) (state_of cursor.old)) }
@@ -110,7 +97,7 @@ fn behind_continue(cursor: &mut Cursor<'_>, token: u32) -> Result<Stmt, ParseErr
 }
 
 /// Reads what is behind `return` (C11, 6.8.6.4).
-#[tactic(auto, unfolding(crate::specs::ReadingStmt::return_with))]
+#[tactic(auto, unfolding(c_grammar::specs::ReadingStmt::return_with))]
 fn behind_return(
     alloc: Global,
     cursor: &mut Cursor<'_>,
@@ -125,7 +112,7 @@ fn behind_return(
 }
 
 /// Reads an expression, if there is one, and the semicolon (C11, 6.8.3).
-#[tactic(auto, unfolding(crate::specs::ReadingStmt::express_with))]
+#[tactic(auto, unfolding(c_grammar::specs::ReadingStmt::express_with))]
 fn express(alloc: Global, cursor: &mut Cursor<'_>, room: u8) -> Result<Stmt, ParseError>
     ensures total { cursor.new.total ≡ cursor.old.total }
     ensures reads { Gives (seen cursor.new) result (express_with cursor.old.total most room (state_of cursor.old)) }
@@ -182,7 +169,7 @@ fn sees_simple(names: &Scope, tokens: &[Token]) -> bool
 }
 
 /// The error where a block has room, and no other statement: what begins none isn't expected.
-#[tactic(auto, unfolding(crate::specs::ReadingStmt::cramped))]
+#[tactic(auto, unfolding(c_grammar::specs::ReadingStmt::cramped))]
 fn cramped(cursor: &Cursor<'_>) -> ParseError
     ensures { result ≡ error_of (cramped cursor.now.total (state_of cursor.now)) }
 {
@@ -214,7 +201,7 @@ impl<F: Fn(Global, &mut Cursor<'_>, u8) -> Result<Stmt, ParseError>> Statements<
     }
 
     /// Reads what is behind `if` (C11, 6.8.4.1). An `else` belongs to the nearest one.
-    #[tactic(auto, unfolding(crate::specs::ReadingStmt::if_with))]
+    #[tactic(auto, unfolding(c_grammar::specs::ReadingStmt::if_with))]
     fn behind_if(&self, cursor: &mut Cursor<'_>, token: u32) -> Result<Stmt, ParseError>
         requires room { 0 < self.now.room }
         requires nests { ReadsStmt self.now.room (F.pre self.now.statement) (F.post self.now.statement) }
@@ -248,7 +235,7 @@ impl<F: Fn(Global, &mut Cursor<'_>, u8) -> Result<Stmt, ParseError>> Statements<
     }
 
     /// Reads what is behind `while` (C11, 6.8.5.1).
-    #[tactic(auto, unfolding(crate::specs::ReadingStmt::while_with))]
+    #[tactic(auto, unfolding(c_grammar::specs::ReadingStmt::while_with))]
     fn behind_while(&self, cursor: &mut Cursor<'_>, token: u32) -> Result<Stmt, ParseError>
         requires room { 0 < self.now.room }
         requires nests { ReadsStmt self.now.room (F.pre self.now.statement) (F.post self.now.statement) }
@@ -264,7 +251,7 @@ impl<F: Fn(Global, &mut Cursor<'_>, u8) -> Result<Stmt, ParseError>> Statements<
     }
 
     /// Reads what is behind `switch` (C11, 6.8.4.2).
-    #[tactic(auto, unfolding(crate::specs::ReadingStmt::switch_with))]
+    #[tactic(auto, unfolding(c_grammar::specs::ReadingStmt::switch_with))]
     fn behind_switch(&self, cursor: &mut Cursor<'_>, token: u32) -> Result<Stmt, ParseError>
         requires room { 0 < self.now.room }
         requires nests { ReadsStmt self.now.room (F.pre self.now.statement) (F.post self.now.statement) }
@@ -280,7 +267,7 @@ impl<F: Fn(Global, &mut Cursor<'_>, u8) -> Result<Stmt, ParseError>> Statements<
     }
 
     /// Reads what is behind `do` (C11, 6.8.5.2).
-    #[tactic(auto, unfolding(crate::specs::ReadingStmt::do_with))]
+    #[tactic(auto, unfolding(c_grammar::specs::ReadingStmt::do_with))]
     fn behind_do(&self, cursor: &mut Cursor<'_>, token: u32) -> Result<Stmt, ParseError>
         requires room { 0 < self.now.room }
         requires nests { ReadsStmt self.now.room (F.pre self.now.statement) (F.post self.now.statement) }
@@ -299,7 +286,7 @@ impl<F: Fn(Global, &mut Cursor<'_>, u8) -> Result<Stmt, ParseError>> Statements<
     }
 
     /// Reads what is behind `for` (C11, 6.8.5.3).
-    #[tactic(auto, unfolding(crate::specs::ReadingStmt::for_with))]
+    #[tactic(auto, unfolding(c_grammar::specs::ReadingStmt::for_with))]
     fn behind_for(&self, cursor: &mut Cursor<'_>, token: u32) -> Result<Stmt, ParseError>
         requires room { 0 < self.now.room }
         requires nests { ReadsStmt self.now.room (F.pre self.now.statement) (F.post self.now.statement) }
@@ -322,7 +309,7 @@ impl<F: Fn(Global, &mut Cursor<'_>, u8) -> Result<Stmt, ParseError>> Statements<
     }
 
     /// Reads what is behind `case` (C11, 6.8.1).
-    #[tactic(auto, unfolding(crate::specs::ReadingStmt::case_with))]
+    #[tactic(auto, unfolding(c_grammar::specs::ReadingStmt::case_with))]
     fn behind_case(&self, cursor: &mut Cursor<'_>, token: u32) -> Result<Stmt, ParseError>
         requires { ReadsStmt self.now.room (F.pre self.now.statement) (F.post self.now.statement) }
         ensures total { cursor.new.total ≡ cursor.old.total }
@@ -336,7 +323,7 @@ impl<F: Fn(Global, &mut Cursor<'_>, u8) -> Result<Stmt, ParseError>> Statements<
     }
 
     /// Reads what is behind `default` (C11, 6.8.1).
-    #[tactic(auto, unfolding(crate::specs::ReadingStmt::default_with))]
+    #[tactic(auto, unfolding(c_grammar::specs::ReadingStmt::default_with))]
     fn behind_default(&self, cursor: &mut Cursor<'_>, token: u32) -> Result<Stmt, ParseError>
         requires { ReadsStmt self.now.room (F.pre self.now.statement) (F.post self.now.statement) }
         ensures total { cursor.new.total ≡ cursor.old.total }
@@ -349,7 +336,7 @@ impl<F: Fn(Global, &mut Cursor<'_>, u8) -> Result<Stmt, ParseError>> Statements<
     }
 
     /// Reads a statement that is no block.
-    #[tactic(auto, unfolding(crate::specs::ReadingStmt::simple))]
+    #[tactic(auto, unfolding(c_grammar::specs::ReadingStmt::simple))]
     fn simple(&self, cursor: &mut Cursor<'_>) -> Result<Stmt, ParseError>
         requires { ReadsStmt self.now.room (F.pre self.now.statement) (F.post self.now.statement) }
         ensures total { cursor.new.total ≡ cursor.old.total }
@@ -420,7 +407,7 @@ impl<F: Fn(Global, &mut Cursor<'_>, u8) -> Result<Stmt, ParseError>> Statements<
     }
 
     /// Reads a declaration or a statement.
-    #[tactic(auto, unfolding(crate::specs::ReadingStmt::item))]
+    #[tactic(auto, unfolding(c_grammar::specs::ReadingStmt::item))]
     fn item(&self, cursor: &mut Cursor<'_>) -> Result<BlockItem<Boxed<Stmt>>, ParseError>
         requires { ReadsStmt self.now.room (F.pre self.now.statement) (F.post self.now.statement) }
         ensures total { cursor.new.total ≡ cursor.old.total }
@@ -435,7 +422,7 @@ impl<F: Fn(Global, &mut Cursor<'_>, u8) -> Result<Stmt, ParseError>> Statements<
     }
 
     /// Reads what stands in a block, and the brace that closes it.
-    #[tactic(auto, unfolding(crate::specs::ReadingStmt::items))]
+    #[tactic(auto, unfolding(c_grammar::specs::ReadingStmt::items))]
     fn items(&self, cursor: &mut Cursor<'_>) -> Result<Items<BlockItem<Boxed<Stmt>>>, ParseError>
         requires { ReadsStmt self.now.room (F.pre self.now.statement) (F.post self.now.statement) }
         ensures total { cursor.new.total ≡ cursor.old.total }
@@ -459,7 +446,7 @@ impl<F: Fn(Global, &mut Cursor<'_>, u8) -> Result<Stmt, ParseError>> Statements<
     }
 
     /// Reads a block (C11, 6.8.2): what is declared in it is out of scope behind it.
-    #[tactic(auto, unfolding(crate::specs::ReadingStmt::block_with))]
+    #[tactic(auto, unfolding(c_grammar::specs::ReadingStmt::block_with))]
     fn block(&self, cursor: &mut Cursor<'_>) -> Result<Stmt, ParseError>
         requires { ReadsStmt self.now.room (F.pre self.now.statement) (F.post self.now.statement) }
         ensures total { cursor.new.total ≡ cursor.old.total }
@@ -476,7 +463,7 @@ impl<F: Fn(Global, &mut Cursor<'_>, u8) -> Result<Stmt, ParseError>> Statements<
 }
 
 /// Reads a statement (C11, 6.8).
-#[tactic(auto, unfolding(crate::specs::ReadingStmt::statement))]
+#[tactic(auto, unfolding(c_grammar::specs::ReadingStmt::statement))]
 fn statement(alloc: Global, cursor: &mut Cursor<'_>, room: u8) -> Result<Stmt, ParseError>
     ensures total { cursor.new.total ≡ cursor.old.total }
     ensures reads { Gives (seen cursor.new) result (statement cursor.old.total most room (state_of cursor.old)) }

@@ -1,24 +1,20 @@
 //! Functions, declarations outside of them, and units.
 
 ghost use Rattle.std.specs.Prelude.{◌≡◌, ◌<◌, [], length};
-ghost use Rattle.c_parser.specs.Reading.{Gives};
-ghost use Rattle.c_parser.specs.Nests.{most, state_of, seen};
-ghost use Rattle.c_parser.specs.ReadingStmt.{function, external_behind, external, is_end, externals, unit};
+ghost use Rattle.c_grammar.specs.Reading.{Gives};
+ghost use Rattle.c_grammar.specs.Nests.{most, state_of, seen};
+ghost use Rattle.c_grammar.specs.ReadingStmt.{function, external_behind, external, is_end, externals, unit};
 
-use crate::ParseError;
-use crate::cursor::Cursor;
-use crate::grammar::{ReadDeclarator, ReadSpecs};
-use crate::initialisers::{bare, decl_from, leave};
-use crate::levels::{declarator, specs};
-use crate::scope::Scope;
 use crate::statements::block_items;
 use c_ast::{External, Unit};
+use c_grammar::{Cursor, ParseError, ReadDeclarator, ReadSpecs, Scope};
 use c_lex::{Mark, Token};
+use c_phrases::{bare, decl_from, declarator, leave, specs};
 use sqlite_items::Items;
 use std::alloc::Global;
 
 /// Reads the body of a function: its parameters and its outermost block are one scope (C11, 6.2.1).
-#[tactic(auto, unfolding(crate::specs::ReadingStmt::function))]
+#[tactic(auto, unfolding(c_grammar::specs::ReadingStmt::function))]
 fn function(
     alloc: Global,
     cursor: &mut Cursor<'_>,
@@ -46,7 +42,7 @@ fn function(
 }
 
 /// Reads a declaration outside all functions on from behind its specifiers.
-#[tactic(auto, unfolding(crate::specs::ReadingStmt::external_behind))]
+#[tactic(auto, unfolding(c_grammar::specs::ReadingStmt::external_behind))]
 fn external_behind(
     alloc: Global,
     cursor: &mut Cursor<'_>,
@@ -72,7 +68,7 @@ fn external_behind(
 }
 
 /// Reads a declaration outside all functions, or a function (C11, 6.9).
-#[tactic(auto, unfolding(crate::specs::ReadingStmt::external))]
+#[tactic(auto, unfolding(c_grammar::specs::ReadingStmt::external))]
 fn external(alloc: Global, cursor: &mut Cursor<'_>, limit: u8) -> Result<External, ParseError>
     requires { limit < 255 }
     ensures total { cursor.new.total ≡ cursor.old.total }
@@ -91,7 +87,7 @@ fn is_end(tokens: &[Token]) -> bool
 }
 
 /// Reads all there is.
-#[tactic(auto, unfolding(crate::specs::ReadingStmt::externals))]
+#[tactic(auto, unfolding(c_grammar::specs::ReadingStmt::externals))]
 fn externals(
     alloc: Global,
     cursor: &mut Cursor<'_>,
@@ -118,7 +114,7 @@ fn externals(
 }
 
 /// Reads a unit of so many tokens, which nest no deeper than the limit.
-#[tactic(auto, unfolding(crate::specs::ReadingStmt::unit))]
+#[tactic(auto, unfolding(c_grammar::specs::ReadingStmt::unit))]
 pub fn unit(alloc: Global, total: u32, tokens: &[Token], limit: u8) -> Result<Unit, ParseError>
     requires all { total ≡ length tokens.now }
     requires limit { limit < 255 }

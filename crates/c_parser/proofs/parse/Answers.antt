@@ -1,4 +1,4 @@
-use Rattle.c_parser.proofs.SettledLaws.{parses_settled, refused_settled, unexpected_settled, nested_settled}
+use Rattle.c_grammar_laws.proofs.SettledLaws.{parses_settled, refused_settled, unexpected_settled, nested_settled}
 use Rattle.c_parser.proofs.parse.Goals as goal
 
 pub returns-clause-parses : goal.returns-clause-parses

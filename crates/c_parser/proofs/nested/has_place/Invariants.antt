@@ -1,6 +1,6 @@
 use Rattle.std.proofs.Common.{◌≡◌, length, take}
 use Rattle.std.specs.List.{list_any}
-use Rattle.c_parser.specs.Told.{stands_at, has_place}
+use Rattle.c_grammar.specs.Told.{stands_at, has_place}
 use Rattle.c_parser.proofs.nested.has_place.Given as goal
 
 -- what is left decides

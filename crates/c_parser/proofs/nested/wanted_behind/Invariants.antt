@@ -1,5 +1,5 @@
 use Rattle.std.proofs.Common.{◌≡◌, [], length}
-use Rattle.c_parser.specs.Brackets as spec
+use Rattle.c_grammar.specs.Brackets as spec
 use Rattle.c_parser.proofs.nested.wanted_behind.Given as goal
 
 -- the rest is met behind what was

@@ -1,6 +1,6 @@
 use Rattle.std.proofs.Common.{sym, ◌∙◌}
-use Rattle.c_parser.specs.Nests.{most, state_of}
-use Rattle.c_parser.proofs.StmtSteps.{items_on}
+use Rattle.c_grammar.specs.Nests.{most, state_of}
+use Rattle.c_phrases.proofs.StmtSteps.{items_on}
 use Rattle.c_parser.proofs.statements.Statements.items.Goals as goal
 
 pub items-preserved : goal.items-preserved

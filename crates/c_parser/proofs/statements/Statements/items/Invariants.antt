@@ -1,6 +1,6 @@
 use Rattle.std.proofs.Common.{◌≡◌, [], length}
-use Rattle.c_parser.specs.Nests.{most, state_of}
-use Rattle.c_parser.specs.ReadingStmt as spec
+use Rattle.c_grammar.specs.Nests.{most, state_of}
+use Rattle.c_grammar.specs.ReadingStmt as spec
 use Rattle.c_parser.proofs.statements.Statements.items.Given as goal
 
 -- the rest is read behind what was found

@@ -1,4 +1,0 @@
-use Rattle.c_parser.proofs.levels.+phrase.Given as goal
-
-abbrev pub decreases-phrase : goal.decreases-phrase
-decreases-phrase l = l.room

@@ -1,6 +1,0 @@
-use Rattle.std.proofs.Common.{◌≡◌, ◌++◌}
-use Rattle.c_parser.specs.Names.{of_known}
-use Rattle.c_parser.proofs.scope.Scope.declare_all.Given as goal
-
-abbrev pub invariant-loop-known : goal.invariant-loop-known
-invariant-loop-known l = l.self ≡ of_known l.yielded ++ l.fn.self

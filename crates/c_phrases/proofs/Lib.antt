@@ -1,0 +1,4 @@
+pub mod DeclaratorSteps
+pub mod ExprSteps
+pub mod SpecsSteps
+pub mod StmtSteps

@@ -1,0 +1,14 @@
+//! Expressions and declarations, read from the front of the tokens that are left.
+#![tactic(auto)]
+
+mod declarators;
+mod expressions;
+mod grammar;
+mod initialisers;
+mod levels;
+mod parameters;
+mod specifiers;
+mod structures;
+
+pub use initialisers::{bare, decl, decl_from, leave};
+pub use levels::{declarator, expr, specs};
