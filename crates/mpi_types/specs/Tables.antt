@@ -1,7 +1,10 @@
--- The numbers and sizes of `mpi.h`. They are this profile's own, as MPI 3.1 leaves them to each implementation.
+-- The numbers and sizes of `mpi.h`, and the numbers of collectives. They are this profile's own, as MPI 3.1 leaves
+-- them to each implementation.
 use Rattle.std.specs.Prelude.{ℕ}
 use Rattle.mpi_types.specs.declared.kinds.Datatype.{Datatype}
 use Rattle.mpi_types.specs.declared.kinds.Datatype.TheVariants.{Char, SignedChar, UnsignedChar, Byte, Short, UnsignedShort, Int, Unsigned, Long, UnsignedLong, LongLong, UnsignedLongLong}
+use Rattle.mpi_types.specs.declared.collective.Collective.{Collective}
+use Rattle.mpi_types.specs.declared.collective.Collective.TheVariants.{Barrier, Bcast, Reduce, Allreduce, Scan, Gather, Scatter, Allgather, Alltoall, CommDup, CommSplit, Migrate}
 use Rattle.mpi_types.specs.declared.kinds.Operation.{Operation}
 use Rattle.mpi_types.specs.declared.kinds.Operation.TheVariants.{Sum, Prod, Max, Min, Land, Lor, Band, Bor, Bxor}
 
@@ -46,3 +49,18 @@ operation_number Lor = 6
 operation_number Band = 7
 operation_number Bor = 8
 operation_number Bxor = 9
+
+-- a collective's number in images and packets
+abbrev pub collective_number : Collective → ℕ
+collective_number Barrier = 1
+collective_number Bcast = 2
+collective_number Reduce = 3
+collective_number Allreduce = 4
+collective_number Scan = 5
+collective_number Gather = 6
+collective_number Scatter = 7
+collective_number Allgather = 8
+collective_number Alltoall = 9
+collective_number CommDup = 10
+collective_number CommSplit = 11
+collective_number Migrate = 12

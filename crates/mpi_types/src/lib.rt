@@ -2,31 +2,41 @@
 //! receives, as the contract of a trait.
 #![tactic(auto)]
 
+mod argument;
 mod book;
 mod calls;
+mod collective;
 mod constants;
 mod context;
 mod entries;
+mod group;
 mod history;
 mod journal;
 mod kinds;
 mod lists;
 mod message;
 mod sequence;
+mod state;
 mod status;
 
+pub use argument::{Arg, ArgList, Direction, Joined, Sweep, TreeMsg, copied_args};
 pub use book::{Completion, MatchBook};
 pub use calls::{BookAnswer, BookCall, Envelope, ask, ask_all, books_agree};
+pub use collective::Collective;
 pub use constants::{
     AMPI_INFO_LB_SYNC, ANY_SOURCE, ANY_TAG, COMM_NULL, COMM_WORLD, PROC_NULL, REQUEST_NULL,
     SUCCESS, UNDEFINED,
 };
 pub use context::{Ctx, DEEPEST, Level};
 pub use entries::{Entry, EntryRun};
+pub use group::{Communicator, Group, SplitArg};
 pub use history::History;
 pub use journal::{append_header, append_runs};
 pub use kinds::{Datatype, Operation};
 pub use lists::{BookLists, MatchedPair};
 pub use message::{Hit, Message, Posted, accepts};
 pub use sequence::Sequence;
+pub use state::{
+    CompleteRequest, Finished, HeldMessage, MessageList, MpiState, OwnData, Phase, Reorder,
+};
 pub use status::Status;
