@@ -12,6 +12,3 @@ pub use digits::{decimal, signed_decimal};
 pub use fields::{put_u16, put_u32, put_u64, puts_are_taken_back, take_u16, take_u32, take_u64};
 pub use lines::{Line, LineList};
 pub use numbers::{PacketNo, ProcId, RankId};
-
-#[cfg(test)]
-mod tests;
