@@ -26,6 +26,3 @@ pub use lists::{BookLists, MatchedPair};
 pub use message::{Hit, Message, Posted, accepts};
 pub use sequence::Sequence;
 pub use status::Status;
-
-#[cfg(test)]
-mod tests;
