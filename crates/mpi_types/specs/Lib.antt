@@ -6,3 +6,4 @@ pub mod Tables
 pub mod Runs
 pub mod Journal
 pub mod Calls
+pub mod Come

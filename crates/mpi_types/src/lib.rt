@@ -4,6 +4,7 @@
 
 mod argument;
 mod book;
+mod call;
 mod calls;
 mod collective;
 mod constants;
@@ -21,6 +22,7 @@ mod status;
 
 pub use argument::{Arg, ArgList, Direction, Joined, Sweep, TreeMsg, copied_args};
 pub use book::{Completion, MatchBook};
+pub use call::{Answer, Call, Write};
 pub use calls::{BookAnswer, BookCall, Envelope, ask, ask_all, books_agree};
 pub use collective::Collective;
 pub use constants::{
