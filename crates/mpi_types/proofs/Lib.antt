@@ -3,3 +3,5 @@ pub mod BookLemmas
 pub mod OnceLemmas
 pub mod CallLemmas
 pub mod RunLemmas
+pub mod ReduceLemmas
+pub mod SoundLemmas

@@ -7,3 +7,6 @@ pub mod Runs
 pub mod Journal
 pub mod Calls
 pub mod Come
+pub mod Reduce
+pub mod Collected
+pub mod Groups

@@ -1,6 +1,6 @@
 ghost use Rattle.std.specs.Prelude.{◌≡◌, ◌≢◌, MatchOption};
 ghost use Rattle.mpi_types.specs.declared.collective.Collective.{Collective};
-ghost use Rattle.mpi_types.specs.Tables.{collective_number};
+ghost use Rattle.mpi_types.specs.Tables.{collective_number, is_typed, is_reducing};
 
 /// The calls in which all members of a communicator take part (MPI 3.1, chapter 5 and section 6.4.2, and this
 /// profile's own `AMPI_Migrate`).
@@ -60,5 +60,43 @@ impl Collective {
             12 => Collective::Migrate,
             _ => return None,
         })
+    }
+
+    /// Whether its arguments have a datatype.
+    pub fn is_typed(self) -> bool
+        ensures { result ≡ is_typed self }
+    {
+        match self {
+            Collective::Bcast
+            | Collective::Reduce
+            | Collective::Allreduce
+            | Collective::Scan
+            | Collective::Gather
+            | Collective::Scatter
+            | Collective::Allgather
+            | Collective::Alltoall => true,
+            Collective::Barrier
+            | Collective::CommDup
+            | Collective::CommSplit
+            | Collective::Migrate => false,
+        }
+    }
+
+    /// Whether its arguments have an operation (MPI 3.1, sections 5.9 and 5.11).
+    pub fn is_reducing(self) -> bool
+        ensures { result ≡ is_reducing self }
+    {
+        match self {
+            Collective::Reduce | Collective::Allreduce | Collective::Scan => true,
+            Collective::Barrier
+            | Collective::Bcast
+            | Collective::Gather
+            | Collective::Scatter
+            | Collective::Allgather
+            | Collective::Alltoall
+            | Collective::CommDup
+            | Collective::CommSplit
+            | Collective::Migrate => false,
+        }
     }
 }

@@ -2,6 +2,7 @@
 //! receives, as the contract of a trait.
 #![tactic(auto)]
 
+mod answers;
 mod argument;
 mod book;
 mod call;
@@ -16,10 +17,12 @@ mod journal;
 mod kinds;
 mod lists;
 mod message;
+mod reduce;
 mod sequence;
 mod state;
 mod status;
 
+pub use answers::collected;
 pub use argument::{Arg, ArgList, Direction, Joined, Sweep, TreeMsg, copied_args};
 pub use book::{Completion, MatchBook};
 pub use call::{Answer, Call, Write};
@@ -37,6 +40,7 @@ pub use journal::{append_header, append_runs};
 pub use kinds::{Datatype, Operation};
 pub use lists::{BookLists, MatchedPair};
 pub use message::{Hit, Message, Posted, accepts};
+pub use reduce::reduced_args;
 pub use sequence::Sequence;
 pub use state::{
     CompleteRequest, Finished, HeldMessage, MessageList, MpiState, OwnData, Phase, Reorder,
