@@ -59,7 +59,7 @@ module _ (code : Code) where
         running = ap (λ k. (run_of s.program r (w.rank r).answers k).ending) now ∙ running 0 (omega arith) (w.rank r).answers;
         below_bound = omega (arith, below 0 (omega arith));
       } in (
-        may,
+        λ unmarked. may,
         ticks-legal s r n (after w (tick_of r)) one
             (λ j small a.
             let later : ((after w (tick_of r)).rank r).ticks + j ≡ (w.rank r).ticks + suc j = omega (arith, first) in

@@ -14,6 +14,3 @@ pub use journal::{append_header, append_runs};
 pub use laws::{drains_are_whole, marked_drains_are_whole};
 pub use release::append_lines;
 pub use report::{End, Standing, append_end, append_rank};
-
-#[cfg(test)]
-mod tests;
