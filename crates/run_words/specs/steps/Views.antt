@@ -1,7 +1,7 @@
 -- What the reader's values say, with no borrow.
 use Rattle.std.specs.Option.{option_copied}
 use Rattle.run_words.specs.Words.{Asked}
-use Rattle.run_words.specs.Reading.{Said}
+use Rattle.run_words.specs.steps.Reading.{Said}
 use Rattle.run_words.specs.declared.reading.Found.{Found}
 use Rattle.run_words.specs.declared.reading.Run.{Run}
 
