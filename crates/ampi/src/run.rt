@@ -3,7 +3,8 @@ ghost use Rattle.am_io.specs.Faults.{Rose};
 ghost use Rattle.thin_run.specs.Group.{setting};
 ghost use Rattle.vm_code.specs.Means.{Means};
 ghost use Rattle.w_model.specs.Texts.{header_line};
-ghost use Rattle.ampi.specs.Runs.{puts, PutsRun, PutsRunPart};
+ghost use Rattle.ampi.specs.Puts.{puts};
+ghost use Rattle.ampi.specs.Runs.{PutsRun, PutsRunPart};
 
 use am_base::Bytes;
 use am_io::{SayError, Sink, say};
