@@ -105,11 +105,11 @@ part-told words r command text compiled p asked loaded is put =
     let Q : List ℕ → ℕ → ℕ → Type 0 = λ file n m. PutsRunPart file (setting compiled.program n m) p in
     elim (moved Q command.ranks asked.asked.ranks command.ticks asked.asked.ticks asked.file asked.ranks asked.ticks put) [
       | inl header ↦ inr (record {
-          asked = asked.asked;
-          program = compiled.program;
-          accepted = accepted words r.held command text compiled asked loaded is;
-          got = header;
-        })
+        asked = asked.asked;
+        program = compiled.program;
+        accepted = accepted words r.held command text compiled asked loaded is;
+        got = header;
+      })
       | inr run ↦
           let headline = headline-of words r.held command text compiled run.pieces run.end asked loaded is run.history run.run in
           part-of-told words r p (status_of run.end) run.pieces (explains-end words r run.pieces run.end headline) run.got
