@@ -1,3 +1,5 @@
+//! A processor's table of where ranks are.
+
 ghost use Rattle.std.specs.Prelude.{◌≡◌, IfOk, Some, length, slice_get};
 ghost use Rattle.location.specs.Places.{IsRank, Learns, at_home, unmoved};
 

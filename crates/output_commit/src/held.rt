@@ -1,3 +1,5 @@
+//! The lines that a rank holds back.
+
 ghost use Rattle.std.specs.Prelude.{◌≡◌, ◌++◌, OnOk};
 ghost use Rattle.am_base.specs.Released.{released_lines};
 ghost use Rattle.output_commit.specs.Held.{AscendByOne, unreleased};

@@ -1,3 +1,5 @@
+//! The law that lines are released once.
+
 ghost use Rattle.output_commit.specs.Once.{IsReleasedOnce, IsRestHeld, HeldAscend, TextsJoin};
 
 /// A law: over any list of commits, rollbacks and prints each line of the history up to its last commit is released once,
