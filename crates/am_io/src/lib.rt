@@ -9,8 +9,6 @@ mod memory_sinks;
 mod optional;
 mod saying;
 mod sinks;
-#[cfg(test)]
-mod tests;
 
 pub use files::{Files, LoadError};
 pub use host::{FileSink, FsFiles, OutSink};
