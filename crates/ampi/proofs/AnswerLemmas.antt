@@ -18,7 +18,7 @@ use Rattle.w_model.specs.declared.report.End.{End}
 use Rattle.w_model.specs.declared.report.End.TheVariants as end
 use Rattle.ampi.specs.declared.status.Status.{Status}
 use Rattle.ampi.specs.declared.status.Status.TheVariants.{Done, Usage, ReadFault, TooLong, Source, Deadlock, OutOfTicks, Trapped, WriteFault, NoMemory}
-use Rattle.w_model.specs.declared.entries.Entry.{Entry}
+use Rattle.mpi_types.specs.declared.entries.Entry.{Entry}
 use Rattle.ampi.specs.Puts.{Piece, ToOut, Puts, GotWhole, GotPart}
 use Rattle.ampi.specs.Runs.{IsRun, PutsRun, PutsRunPart}
 use Rattle.ampi.specs.Answers.{Reads, Answers, Explains, Headline, ToldUsage, ToldOfFile, IsUsage, IsLoaded, IsTooLong, IsCause, IsRefusedSource, IsAccepted, IsBrokenOff, setting_of, status_of, source_limit, source_text, usage_text, too_long_text, cannot_read_text}

@@ -4,11 +4,13 @@ use Rattle.std.proofs.lemmas.List.{append-nil}
 use Rattle.std.specs.Io.KnownBytes.{Appends}
 use Rattle.am_io.specs.Pieces.{AppendsPart}
 use Rattle.am_io.proofs.PieceLemmas.{Appends-append, AppendsPart-whole}
-use Rattle.w_model.specs.declared.entries.Entry.{Entry}
-use Rattle.w_model.specs.declared.entries.Entry.TheVariants.{Commit}
+use Rattle.mpi_types.specs.declared.entries.Entry.{Entry}
+use Rattle.mpi_types.specs.declared.entries.Entry.TheVariants.{Commit}
 use Rattle.w_model.specs.World.{Setting, World, start_world, world_of, after, after_all}
 use Rattle.w_model.specs.Cut.{HasNoMark, released_lines, released_at}
-use Rattle.w_model.specs.Texts.{header_line, run_lines, runs_of, report_text}
+use Rattle.w_model.specs.Texts.{report_text}
+use Rattle.mpi_types.specs.Journal.{header_line, run_lines}
+use Rattle.mpi_types.specs.Runs.{runs_of}
 use Rattle.w_model.proofs.DrainLemmas.{drain-whole, marked-whole}
 use Rattle.thin_run.specs.declared.told.Told.{Told}
 use Rattle.thin_run.specs.Told.{TellsOfRun, on_first}

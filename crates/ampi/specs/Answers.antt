@@ -7,12 +7,13 @@ use Rattle.c_model.specs.declared.tree.Program.{Program}
 use Rattle.run_words.specs.Words.{Asked, AskForRun}
 use Rattle.c_model.specs.Need.{IsSimple}
 use Rattle.thin_compile.specs.Source.{IsSource, IsNotBuilt, IsTooComplexSource}
-use Rattle.w_model.specs.declared.entries.Entry.{Entry}
+use Rattle.mpi_types.specs.declared.entries.Entry.{Entry}
 use Rattle.w_model.specs.declared.report.End.{End}
 use Rattle.w_model.specs.declared.report.End.TheVariants as end
 use Rattle.w_model.specs.World.{Setting, world_of, IsLegal, IsStuck}
 use Rattle.w_model.specs.Cut.{released_lines}
-use Rattle.w_model.specs.Texts.{header_line, journal_text, report_text, end_at}
+use Rattle.w_model.specs.Texts.{report_text, end_at}
+use Rattle.mpi_types.specs.Journal.{header_line, journal_text}
 use Rattle.w_model.specs.Whole.{IsMarkedDrain}
 use Rattle.thin_run.specs.Group.{setting}
 use Rattle.thin_run.specs.Told.{on_first}
@@ -92,7 +93,7 @@ pub record Headline (words : List (List ℕ)) (held : Held) (end : End) (pieces 
   pub cut_and_marked : IsMarkedDrain (setting_of asked program) history
   pub allowed : IsLegal (setting_of asked program) history
   pub ended : IsStuck (setting_of asked program) history
-  pub texts : (journal_of pieces ≡ journal_text (setting_of asked program) history)
+  pub texts : (journal_of pieces ≡ journal_text asked.ranks asked.ticks history)
       × (out_of pieces ≡ released_lines (setting_of asked program) history ++ report_text asked.file (setting_of asked program) on_first history)
   pub in_order : pieces ≡ run_pieces asked.file (setting_of asked program) history
   pub status : end_at (setting_of asked program) (world_of history) ≡ end

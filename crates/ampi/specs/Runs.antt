@@ -1,10 +1,13 @@
 -- What the program puts of a run.
 use Rattle.std.specs.Prelude.{ℕ, ◌≡◌, if◌then◌else◌, List, [], ◌∷◌, ◌++◌, ◌⊎◌}
-use Rattle.w_model.specs.declared.entries.Entry.{Entry}
+use Rattle.mpi_types.specs.declared.entries.Entry.{Entry}
 use Rattle.w_model.specs.declared.report.End.{End}
-use Rattle.w_model.specs.World.{Setting, World, start_world, after, world_of, is_mark, IsLegal, IsStuck}
+use Rattle.w_model.specs.World.{Setting, World, start_world, after, world_of, IsLegal, IsStuck}
+use Rattle.mpi_types.specs.Runs.{is_mark}
 use Rattle.w_model.specs.Cut.{released_at, released_lines}
-use Rattle.w_model.specs.Texts.{header_line, run_lines, runs_of, journal_text, report_text, end_at}
+use Rattle.w_model.specs.Texts.{report_text, end_at}
+use Rattle.mpi_types.specs.Journal.{header_line, run_lines, journal_text}
+use Rattle.mpi_types.specs.Runs.{runs_of}
 use Rattle.w_model.specs.Whole.{IsMarkedDrain}
 use Rattle.thin_run.specs.Told.{on_first}
 use Rattle.ampi.specs.Puts.{Piece, ToOut, ToJournal, out_of, journal_of, Puts, GotWhole, GotPart}
@@ -28,7 +31,7 @@ pub record IsRun (file : List ℕ) (s : Setting) (history : List Entry) (pieces 
   pub cut_and_marked : IsMarkedDrain s history
   pub allowed : IsLegal s history
   pub ended : IsStuck s history
-  pub texts : (journal_of pieces ≡ journal_text s history)
+  pub texts : (journal_of pieces ≡ journal_text s.ranks s.bound history)
       × (out_of pieces ≡ released_lines s history ++ report_text file s on_first history)
   pub in_order : pieces ≡ run_pieces file s history
   pub status : end ≡ end_at s (world_of history)

@@ -11,7 +11,7 @@ use lib.Dec.{eqb}
 use Rattle.c_model.specs.declared.tree.Program.{Program}
 use Rattle.c_model.specs.declared.tree.Ending.TheVariants.{Paused}
 use Rattle.c_model.specs.Run.{Answer, run_of}
-use Rattle.w_model.specs.declared.entries.Entry.{Entry}
+use Rattle.mpi_types.specs.declared.entries.Entry.{Entry}
 use Rattle.w_model.specs.World.{Setting, World, RankPart, MayTick, after, after_all, world_of, start_world, changed_at, ticked, IsLegalFrom}
 use Rattle.w_model.specs.Cut.{rank_numbers}
 use Rattle.w_model.specs.Drain.{tick_of, IsRunOf, IsRound, IsDrain, last, more, ticks_in_round}

@@ -5,8 +5,8 @@ use Rattle.std.proofs.lemmas.Bool.Decides.{eqb_tells}
 use Rattle.std.proofs.lemmas.List.{append-nil}
 use Rattle.std.specs.Prelude.{replicate}
 use Rattle.std.specs.List.{range_with_len}
-use Rattle.w_model.specs.declared.entries.Entry.{Entry}
-use Rattle.w_model.specs.declared.entries.Entry.TheVariants.{Tick, Match, Gather, Commit}
+use Rattle.mpi_types.specs.declared.entries.Entry.{Entry}
+use Rattle.mpi_types.specs.declared.entries.Entry.TheVariants.{Tick, Match, Gather, Commit}
 use Rattle.w_model.specs.World.{Setting, World, MayTick, IsStep, after, after_all, world_of, IsLegalFrom, start_world}
 use Rattle.w_model.specs.Cut.{rank_numbers, HasNoMark, cut, before_cut, released_from, released_at}
 use Rattle.w_model.specs.Whole.{MarkedDrainsAreWhole}

@@ -2,9 +2,11 @@
 use Rattle.std.specs.Prelude.{ℕ, ◌≡◌, if◌then◌else◌, false, List, [], ◌∷◌, ◌++◌, length, drop, codes}
 use Rattle.std.specs.List.{flat_map, range_with_len, AllByRecursion}
 use Rattle.std.specs.Fmt.{decimal}
+use Rattle.am_base.specs.Released.{released_line}
 use Rattle.c_model.specs.Lines.{lines_of}
-use Rattle.w_model.specs.declared.entries.Entry.{Entry}
-use Rattle.w_model.specs.World.{Setting, World, start_world, after, outcome_at, is_mark}
+use Rattle.mpi_types.specs.declared.entries.Entry.{Entry}
+use Rattle.w_model.specs.World.{Setting, World, start_world, after, outcome_at}
+use Rattle.mpi_types.specs.Runs.{is_mark}
 
 -- an entry before a part that is cut: it is kept where that part has a mark, and where it is a mark itself
 abbrev pub before_cut : Entry → List Entry → List Entry
@@ -23,10 +25,6 @@ HasNoMark h = AllByRecursion (λ e. is_mark e ≡ false) h
 -- the numbers of the ranks, in order
 abbrev pub rank_numbers : Setting → List ℕ
 rank_numbers s = range_with_len 0 s.ranks
-
--- how a released line is written: behind its rank's number
-abbrev pub released_line : ℕ → List ℕ → List ℕ
-released_line r line = codes "[" ++ decimal r ++ codes "] " ++ line ++ codes "\n"
 
 -- the lines of a rank at a world
 abbrev pub lines_at : Setting → World → ℕ → List (List ℕ)

@@ -1,7 +1,7 @@
 -- A whole run: a drain and then the one mark.
 use Rattle.std.specs.Prelude.{◌≡◌, List, [], ◌∷◌, ◌++◌}
-use Rattle.w_model.specs.declared.entries.Entry.{Entry}
-use Rattle.w_model.specs.declared.entries.Entry.TheVariants.{Commit}
+use Rattle.mpi_types.specs.declared.entries.Entry.{Entry}
+use Rattle.mpi_types.specs.declared.entries.Entry.TheVariants.{Commit}
 use Rattle.w_model.specs.World.{Setting, start_world, world_of, IsLegal, IsStuck}
 use Rattle.w_model.specs.Cut.{HasNoMark, cut, released_at, released_lines}
 use Rattle.w_model.specs.Drain.{IsDrain}

@@ -4,8 +4,9 @@ use Rattle.std.specs.Prelude.{ℕ, ◌≡◌, ◌+◌, ◌<◌, ◌==◌, if◌t
 use Rattle.c_model.specs.declared.tree.Program.{Program}
 use Rattle.c_model.specs.Run.{Answer, Outcome, run_of}
 use Rattle.c_model.specs.declared.tree.Ending.TheVariants.{Paused}
-use Rattle.w_model.specs.declared.entries.Entry.{Entry}
-use Rattle.w_model.specs.declared.entries.Entry.TheVariants.{Tick, Match, Gather, Commit}
+use Rattle.mpi_types.specs.declared.entries.Entry.{Entry}
+use Rattle.mpi_types.specs.Runs.{is_mark}
+use Rattle.mpi_types.specs.declared.entries.Entry.TheVariants.{Tick, Match, Gather, Commit}
 
 -- What a run is given: its program, how many ranks run it, and how many ticks each may take.
 pub record Setting : Type 0 where
@@ -66,10 +67,6 @@ IsStep s w (Tick r) = MayTick s w r.0
 IsStep s w (Match r request sender) = ⊥
 IsStep s w (Gather r) = ⊥
 IsStep s w Commit = ⊥
-
-abbrev pub is_mark : Entry → Bool
-is_mark Commit = true
-is_mark e = false
 
 -- an entry that isn't a mark is a step
 abbrev pub MayStand : Setting → World → Entry → Type 0
