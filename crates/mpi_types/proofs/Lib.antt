@@ -5,3 +5,4 @@ pub mod CallLemmas
 pub mod RunLemmas
 pub mod ReduceLemmas
 pub mod SoundLemmas
+pub mod GroupLemmas

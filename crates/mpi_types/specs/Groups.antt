@@ -1,5 +1,5 @@
 -- The groups that a duplicate and a split of a communicator give (MPI 3.1, section 6.4.2).
-use Rattle.std.specs.Prelude.{ℕ, ℤ, pos, ◌≡◌, ◌<◌, ◌<ℤ◌, ◌⊎◌, ◌==◌, ◌&&◌, ◌||◌, nat_lt, int_lt, if◌then◌else◌, Bool, Option, Some, None, List, [], ◌∷◌, ◌++◌, map, filter, get_or, slice_get, AllPairs}
+use Rattle.std.specs.Prelude.{ℕ, ℤ, pos, ◌≡◌, ◌<◌, ◌<ℤ◌, ◌⊎◌, ◌==◌, ◌&&◌, ◌||◌, nat_lt, int_lt, if◌then◌else◌, Bool, Option, Some, None, List, [], ◌∷◌, ◌++◌, map, filter, get_or, slice_get, AllPairs, IsPermutation}
 use Rattle.std.specs.Ordering.{int_eq}
 use Rattle.am_base.specs.declared.numbers.RankId.{RankId}
 use Rattle.mpi_types.specs.declared.argument.Arg.{Arg}
@@ -57,3 +57,17 @@ split_of g position list member = split_by g position list (slice_get list membe
 -- what members give to a split, of their arguments of the collective
 abbrev pub split_args_of : List Arg → List SplitArg
 split_args_of list = map (λ a. record { member = a.member; colour = a.colour; key = a.key }) list
+
+-- The members of a colour are put in order: each stands before those that come behind it, and none is lost or added.
+pub record IsOrderOf (list new : List SplitArg) : Type 0 where
+  pub in_order : AllPairs ComesBefore new
+  pub same_members : IsPermutation new list
+
+-- old numbers grow along the list
+abbrev pub IsInMemberOrder : List SplitArg → Type 0
+IsInMemberOrder list = AllPairs (λ a b. a.member < b.member) list
+
+-- Where the list is in member order, `of_colour` gives the members of that colour in their new order.
+abbrev pub SplitsAreOrdered : Type 0
+SplitsAreOrdered = (list : List SplitArg) (colour : ℤ) → IsInMemberOrder list
+    → IsOrderOf (filter (λ a. int_eq a.colour colour) list) (of_colour colour list)

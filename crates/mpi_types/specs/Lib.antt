@@ -10,3 +10,4 @@ pub mod Come
 pub mod Reduce
 pub mod Collected
 pub mod Groups
+pub mod Order

@@ -15,6 +15,7 @@ mod group;
 mod history;
 mod journal;
 mod kinds;
+mod laws;
 mod lists;
 mod message;
 mod reduce;
@@ -38,11 +39,12 @@ pub use group::{Communicator, Group, SplitArg};
 pub use history::History;
 pub use journal::{append_header, append_runs};
 pub use kinds::{Datatype, Operation};
+pub use laws::splits_are_ordered;
 pub use lists::{BookLists, MatchedPair};
 pub use message::{Hit, Message, Posted, accepts};
 pub use reduce::reduced_args;
 pub use sequence::Sequence;
 pub use state::{
-    CompleteRequest, Finished, HeldMessage, MessageList, MpiState, OwnData, Phase, Reorder,
+    CompleteKind, CompleteRequest, HeldMessage, MessageList, MpiState, OwnData, Phase, Reorder,
 };
 pub use status::Status;

@@ -10,9 +10,9 @@ pub enum Phase {
     After,
 }
 
-/// A request that is complete and doesn't stand in the book.
+/// What a request was that is complete and doesn't stand in the book.
 #[derive(Clone, Copy, Debug, PartialEq, Eq)]
-pub enum Finished {
+pub enum CompleteKind {
     /// Of a send, whose bytes are copied in its call.
     Send,
     /// Of a receive from `MPI_PROC_NULL` (MPI 3.1, section 3.11).
@@ -23,7 +23,7 @@ pub enum Finished {
 #[derive(Clone, Copy, Debug, PartialEq, Eq)]
 pub struct CompleteRequest {
     pub number: u32,
-    pub finished: Finished,
+    pub kind: CompleteKind,
 }
 
 /// What a rank keeps of MPI beside its book and its collectives.
