@@ -1,6 +1,6 @@
 -- The order in which a split puts members.
-use Rattle.std.proofs.Common.{ℕ, ℤ, ◌≡◌, ◌≢◌, ◌<◌, ◌⊎◌, inl, inr, ◌&&◌, ◌||◌, Bool, true, false, List, [], ◌∷◌, ◌++◌, refl, sym, ap, subst, ◌∙◌, arith}
-use Rattle.std.specs.Prelude.{All, AllPairs, IsPermutation, filter, int_lt, nat_lt, ◌<ℤ◌, ◌≤ℤ◌}
+use Rattle.std.proofs.Common.{ℤ, ◌≡◌, ◌≢◌, ◌<◌, ◌⊎◌, inl, inr, ◌&&◌, true, false, List, [], ◌∷◌, sym, subst, ◌∙◌, arith}
+use Rattle.std.specs.Prelude.{All, AllPairs, IsPermutation, filter, int_lt, nat_lt, ◌<ℤ◌}
 use Rattle.std.specs.Ordering.{int_eq}
 use Rattle.std.proofs.lemmas.Bool.{cases_Bool, or_cases, or_parts, and_parts, and_cases, ltb-true, lt-ltb, true≢false}
 use Rattle.std.proofs.lemmas.Bool.Decides.{Decides-int_eq}
@@ -9,7 +9,7 @@ use Rattle.std.proofs.lemmas.List.Elements.{All-nil, All-cons, All-head, All-tai
 use Rattle.std.proofs.lemmas.List.Kept.{AllPairs-cons, AllPairs-filter}
 use Rattle.std.proofs.lemmas.List.Sorted.{IsPermutation-refl, IsPermutation-sym, IsPermutation-cons, IsPermutation-trans, IsPermutation-middle, All-permutation}
 use Rattle.mpi_types.specs.declared.group.SplitArg.{SplitArg}
-use Rattle.mpi_types.specs.Groups.{ComesBefore, comes_before, put_in, ordered, of_colour, IsOrderOf, IsInMemberOrder, SplitsAreOrdered}
+use Rattle.mpi_types.specs.Groups.{ComesBefore, comes_before, put_in, ordered, IsInMemberOrder, SplitsAreOrdered}
 use Rattle.mpi_types.proofs.ListLemmas.{AllPairs-head, AllPairs-tail}
 
 less_true : (a b : ℤ) → int_lt a b ≡ true → a <ℤ b

@@ -6,3 +6,5 @@ pub mod RunLemmas
 pub mod ReduceLemmas
 pub mod SoundLemmas
 pub mod GroupLemmas
+pub mod AcceptLemmas
+pub mod KeepLemmas

@@ -2,10 +2,10 @@
 use Rattle.std.proofs.Common.{ℕ, ℤ, pos, ◌-ℤ◌, if◌then◌else◌, zero, suc, ◌≡◌, ◌≢◌, ◌+◌, ◌-◌, ◌*◌, ◌%◌, ◌^◌, ◌<◌, ◌≤◌, ◌⊎◌, inl, inr, Bool, true, false, List, [], ◌∷◌, ◌++◌, length, get_or, set, take, drop, map, Option, None, Some, eqb, refl, sym, ap, subst, ◌∙◌, arith, add-one, append_assoc}
 use Rattle.std.specs.Prelude.{int_lt, nat_lt, fold, MatchOption}
 use Rattle.std.proofs.lemmas.Bool.{ne_eqb, cases_lt, lt-ltb, le-ltb}
-use Rattle.std.proofs.lemmas.List.{drop-drop, drop_more, take_more_set, drop-set-lt, map-append, length-set, length-map, map_more, get_or_default}
+use Rattle.std.proofs.lemmas.List.{drop-drop, drop_more, take_more_set, drop-set-lt, map-append, length-set, map_more, get_or_default}
 use Rattle.std.proofs.lemmas.Int.{ints}
 use Rattle.std.specs.Int.{bytes_low_first, byte_at}
-use Rattle.byteorder.specs.Endian.{little_number, little_bytes, twos_complement}
+use Rattle.byteorder.specs.Endian.{little_number}
 use Rattle.mpi_types.specs.declared.argument.Arg.{Arg}
 use Rattle.mpi_types.specs.declared.kinds.Datatype.{Datatype}
 use Rattle.mpi_types.specs.declared.kinds.Datatype.TheVariants.{Char, SignedChar, UnsignedChar, Byte, Short, UnsignedShort, Int, Unsigned, Long, UnsignedLong, LongLong, UnsignedLongLong}

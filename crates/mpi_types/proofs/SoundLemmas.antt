@@ -1,9 +1,7 @@
 -- What sound arguments bring.
-use Rattle.std.proofs.Common.{ℕ, ℤ, pos, negsuc, zero, suc, ◌≡◌, ◌+◌, ◌*◌, ◌<◌, ◌≤◌, ◌&&◌, ◌∙◌, Bool, true, false, eqb, List, [], ◌∷◌, length, get_or, map, take, drop, refl, sym, ap, subst, arith}
-use Rattle.std.specs.Prelude.{nat_lt, All}
+use Rattle.std.proofs.Common.{ℕ, ℤ, pos, negsuc, zero, suc, ◌≡◌, ◌+◌, ◌*◌, ◌<◌, ◌≤◌, ◌&&◌, ◌∙◌, true, eqb, List, [], ◌∷◌, length, get_or, refl, sym, ap, subst, arith}
 use Rattle.std.specs.List.{list_all}
 use Rattle.std.proofs.lemmas.Bool.{and_parts, ltb-true, eqb-true, eq-eqb}
-use Rattle.std.proofs.lemmas.List.{drop_more, get_or_default}
 use Rattle.mpi_types.specs.declared.argument.Arg.{Arg}
 use Rattle.std.proofs.lemmas.Nat.{mul-le}
 use Rattle.mpi_types.specs.declared.collective.Collective.TheVariants.{Scatter}

@@ -1,5 +1,5 @@
 -- The groups that a duplicate and a split of a communicator give (MPI 3.1, section 6.4.2).
-use Rattle.std.specs.Prelude.{ℕ, ℤ, pos, ◌≡◌, ◌<◌, ◌<ℤ◌, ◌⊎◌, ◌==◌, ◌&&◌, ◌||◌, nat_lt, int_lt, if◌then◌else◌, Bool, Option, Some, None, List, [], ◌∷◌, ◌++◌, map, filter, get_or, slice_get, AllPairs, IsPermutation}
+use Rattle.std.specs.Prelude.{ℕ, ℤ, pos, ◌≡◌, ◌<◌, ◌<ℤ◌, ◌⊎◌, ◌&&◌, ◌||◌, nat_lt, int_lt, if◌then◌else◌, Bool, Option, Some, None, List, [], ◌∷◌, ◌++◌, map, filter, get_or, slice_get, AllPairs, IsPermutation}
 use Rattle.std.specs.Ordering.{int_eq}
 use Rattle.am_base.specs.declared.numbers.RankId.{RankId}
 use Rattle.mpi_types.specs.declared.argument.Arg.{Arg}

@@ -1,33 +1,22 @@
 -- The orders in which a rank keeps its lists. They are this profile's own.
 use Rattle.std.specs.Prelude.{ℕ, ◌<◌, ◌==◌, ◌&&◌, ◌||◌, nat_lt, int_lt, Bool, true, false, IsTrue, List, [], ◌∷◌, AllPairs}
-use Rattle.std.specs.Ordering.{int_eq}
 use Rattle.mpi_types.specs.declared.argument.Direction.{Direction}
 use Rattle.mpi_types.specs.declared.argument.Direction.TheVariants.{Up, Down}
 use Rattle.mpi_types.specs.declared.argument.TreeMsg.{TreeMsg}
 use Rattle.mpi_types.specs.declared.context.Level.{Level}
-use Rattle.mpi_types.specs.declared.group.Communicator.{Communicator}
-use Rattle.mpi_types.specs.declared.state.CompleteRequest.{CompleteRequest}
 use Rattle.mpi_types.specs.declared.state.HeldMessage.{HeldMessage}
 use Rattle.mpi_types.specs.declared.state.OwnData.{OwnData}
+use Rattle.mpi_types.specs.Accepts.{is_same_level, is_same_ctx}
 
 -- levels by position, and then by colour
 abbrev pub is_level_before : Level → Level → Bool
 is_level_before a b = nat_lt a.position b.position || a.position == b.position && int_lt a.colour b.colour
-
-abbrev pub is_same_level : Level → Level → Bool
-is_same_level a b = a.position == b.position && int_eq a.colour b.colour
 
 -- contexts level by level, a prefix first
 abbrev pub is_ctx_before : List Level → List Level → Bool
 is_ctx_before a [] = false
 is_ctx_before [] (y ∷ b) = true
 is_ctx_before (x ∷ a) (y ∷ b) = is_level_before x y || is_same_level x y && is_ctx_before a b
-
-abbrev pub is_same_ctx : List Level → List Level → Bool
-is_same_ctx [] [] = true
-is_same_ctx [] (y ∷ b) = false
-is_same_ctx (x ∷ a) [] = false
-is_same_ctx (x ∷ a) (y ∷ b) = is_same_level x y && is_same_ctx a b
 
 -- a direction's number in images and packets
 abbrev pub direction_number : Direction → ℕ

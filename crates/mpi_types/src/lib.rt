@@ -39,7 +39,7 @@ pub use group::{Communicator, Group, SplitArg};
 pub use history::History;
 pub use journal::{append_header, append_runs};
 pub use kinds::{Datatype, Operation};
-pub use laws::splits_are_ordered;
+pub use laws::{acceptance_is_tested, insertion_is_one_place, splits_are_ordered};
 pub use lists::{BookLists, MatchedPair};
 pub use message::{Hit, Message, Posted, accepts};
 pub use reduce::reduced_args;

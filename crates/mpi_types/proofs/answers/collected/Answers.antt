@@ -1,4 +1,4 @@
-use Rattle.std.proofs.Common.{◌≡◌, ◌∙◌, arith, sym}
+use Rattle.std.proofs.Common.{◌∙◌, arith, sym}
 use Rattle.mpi_types.proofs.SoundLemmas.{brings_of}
 use Rattle.mpi_types.proofs.answers.collected.Goals as goal
 

@@ -1,4 +1,4 @@
-use Rattle.std.proofs.Common.{◌≡◌, ◌*◌, ◌∙◌, ap, drop}
+use Rattle.std.proofs.Common.{◌*◌, ◌∙◌, ap, drop}
 use Rattle.byteorder.specs.Endian.{little_number}
 use Rattle.mpi_types.specs.Tables.{datatype_size}
 use Rattle.mpi_types.proofs.ReduceLemmas.{begun_more}

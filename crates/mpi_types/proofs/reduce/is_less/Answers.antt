@@ -1,7 +1,4 @@
-use Rattle.std.proofs.Common.{ap, ◌∙◌, sym, subst, ◌≡◌, ℕ, Bool, true}
-use Rattle.std.specs.Prelude.{nat_lt}
-use Rattle.mpi_types.specs.declared.kinds.Datatype.{Datatype}
-use Rattle.mpi_types.specs.Reduce.{is_less, is_signed, shifted}
+use Rattle.std.proofs.Common.{sym}
 use Rattle.mpi_types.proofs.ReduceLemmas.{less_signed}
 use Rattle.mpi_types.proofs.reduce.is_less.Goals as goal
 
