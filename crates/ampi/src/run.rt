@@ -8,10 +8,10 @@ ghost use Rattle.ampi.specs.Runs.{PutsRun, PutsRunPart};
 
 use am_base::Bytes;
 use am_io::{SayError, Sink, say};
+use mpi_types::append_header;
 use std::alloc::{AllocError, Global};
 use thin_run::run;
 use vm_code::Compiled;
-use mpi_types::append_header;
 use w_model::End;
 
 /// Runs the program of a file on so many ranks, with a bound on the ticks of each, and puts the journal, the lines and the

@@ -3,9 +3,9 @@ ghost use Rattle.thin_run.specs.Group.{setting, Stand, AddsRun, AddsRound, AddsD
 
 use crate::rank::Rank;
 use am_base::RankId;
+use mpi_types::{Entry, EntryRun, History};
 use std::alloc::AllocError;
 use vm_code::Compiled;
-use mpi_types::{Entry, EntryRun, History};
 
 /// How many ticks each rank gets in a round.
 const TICKS_IN_ROUND: u64 = 1000;

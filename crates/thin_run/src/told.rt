@@ -12,9 +12,9 @@ ghost use Rattle.vm_code.specs.declared.code.Code.{Code};
 use crate::group::drain;
 use crate::rank::Rank;
 use am_base::{Bytes, ProcId, RankId};
+use mpi_types::{Entry, EntryRun, History, append_runs};
 use std::alloc::{AllocError, Global};
 use vm_code::Compiled;
-use mpi_types::{Entry, EntryRun, History, append_runs};
 use w_model::{End, Standing, append_end, append_lines, append_rank};
 
 /// The texts that tell of a whole run, and how it ended.

@@ -22,7 +22,9 @@ pub fn append_lines(
 {
     let rest = append_whole_lines(out, rank, text)?;
     match ending {
-        Ending::Ended(_) | Ending::Trapped(_) if !rest.is_empty() => append_released(out, rank, rest),
+        Ending::Ended(_) | Ending::Trapped(_) if !rest.is_empty() => append_released(
+            out, rank, rest,
+        ),
         _ => Ok(()),
     }
 }

@@ -1,5 +1,5 @@
 use crate::operators::{operate, operate_one};
-use am_base::{Bytes, signed_decimal, TrapCause};
+use am_base::{Bytes, TrapCause, signed_decimal};
 use c_model::{BinaryOp, UnaryOp};
 use std::alloc::{AllocError, Global};
 use std::test::Fail;
