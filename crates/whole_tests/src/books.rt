@@ -1,6 +1,7 @@
 //! `match`: calls of a book, one after another, and what they answer; and the tables of MPI's data. `post REQUEST CONTEXT
-//! SOURCE TAG`, `arrive CONTEXT MEMBER TAG BYTE`, `complete R`, `matched R`, `receive R`, `message R`, `peek CONTEXT SOURCE
-//! TAG`, `lists`; `again` goes on with the book that is made of the lists. A message's sender is ten more than its number.
+//! SOURCE TAG`, `arrive CONTEXT MEMBER TAG BYTE`, `complete R`, `live R`, `matched R`, `receive R`, `message R`, `peek CONTEXT
+//! SOURCE TAG`, `lists`, `count`; `again` goes on with the book that is made of the lists. A message's sender is ten more than
+//! its number.
 
 use crate::cases::begins;
 use crate::lines::{i32_at, u8_at, u32_at, word_at};
