@@ -1,3 +1,5 @@
+//! What the tests of the parser share.
+
 mod chains;
 mod declarations;
 mod expr_text;

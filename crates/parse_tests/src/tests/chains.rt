@@ -1,3 +1,5 @@
+//! Chains of operators at the limit and past it.
+
 use super::{error_of, tokens_of};
 use c_parser::ParseError;
 use std::alloc::{AllocError, Global};

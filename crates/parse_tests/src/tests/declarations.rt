@@ -1,3 +1,5 @@
+//! Declarations and their trees.
+
 use super::check;
 use std::test::Fail;
 

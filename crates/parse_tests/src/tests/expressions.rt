@@ -1,3 +1,5 @@
+//! Expressions and their trees.
+
 use super::check_expressions;
 use std::test::Fail;
 

@@ -1,3 +1,5 @@
+//! Nesting at the limit and past it.
+
 use super::chains::repeat;
 use super::{error_of, tokens_of};
 use c_parser::ParseError;

@@ -1,3 +1,5 @@
+//! The tokens that trees tell.
+
 use super::answer_of;
 use std::test::Fail;
 

@@ -1,3 +1,5 @@
+//! The shape of a tree as a text.
+
 use c_ast::{AssignOp, BinaryOp, Name, NumberType, PrefixOp, Qualifier, Storage, TypeWord};
 use std::alloc::{AllocError, Global};
 

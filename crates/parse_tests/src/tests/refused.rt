@@ -1,3 +1,5 @@
+//! Where and why tokens are refused.
+
 use super::{error_of, tokens_of};
 use c_lex::Token;
 use c_parser::ParseError;

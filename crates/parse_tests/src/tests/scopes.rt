@@ -1,3 +1,5 @@
+//! Names of types by scope.
+
 use super::{answer_of, check};
 use std::alloc::{AllocError, Global};
 use std::process::Abort;

@@ -1,3 +1,5 @@
+//! Statements and their trees.
+
 use super::check_bodies;
 use std::test::Fail;
 
