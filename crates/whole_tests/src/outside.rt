@@ -161,5 +161,5 @@ pub fn show_host<R: std::rt::Files>(
         show_loaded(alloc, out, &mut files, name, limit)?;
         write!(out, " with {} faults\n", files.faults())?;
     }
-    Ok(())
+    out.push_str("\n")
 }

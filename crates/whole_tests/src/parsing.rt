@@ -75,6 +75,7 @@ fn show_unit(
             let text = shown(alloc, &unit, has_numbers);
             drop(unit);
             match text {
+                Ok(text) if text.is_empty() => out.push_str("no externals"),
                 Ok(text) => out.push_str(text.as_str()),
                 Err(error) => Err(error),
             }

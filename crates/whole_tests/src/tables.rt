@@ -1,12 +1,14 @@
 //! The tables of MPI's data, for the word `match`: `datatype N`, `operation N`, `status MEMBER TAG BYTES`, `status empty`,
-//! `status none`, `entry TIMES KIND ..`, `accepts SOURCE TAG` for a message of member 2 with tag 7, `depth N`, `sequence N ..`.
+//! `status none`, `entry TIMES KIND ..`, `journal RANKS BOUND`, `accepts SOURCE TAG` for a message of member 2 with tag 7, `depth N`, `sequence N ..`.
+
+ghost use Rattle.mpi_types.specs.Runs.{MayRepeat};
 
 use crate::books::{context, message_of};
 use crate::lines::{i32_at, no_case, number_at, show_bytes, u8_at, u16_at, u32_at, word_at};
 use am_base::{Bytes, RankId};
 use mpi_types::{
-    Ctx, DEEPEST, Datatype, HistoryEntry, Level, Operation, Posted, Sequence, Status, accepts,
-    append_entry,
+    Ctx, DEEPEST, Datatype, Entry, EntryRun, History, Level, Operation, Posted, Sequence, Status,
+    accepts, append_header, append_runs,
 };
 use std::alloc::{AllocError, Global};
 
@@ -16,6 +18,7 @@ pub fn answer(alloc: Global, out: &mut String, line: &str) -> Result<(), AllocEr
         "operation" => show_operation(out, i32_at(line, 1)),
         "status" => show_status(alloc, out, line),
         "entry" => show_entry(alloc, out, line),
+        "journal" => show_header(alloc, out, line),
         "accepts" => show_accepts(alloc, out, line),
         "depth" => show_depth(alloc, out, number_at(line, 1)),
         "sequence" => show_sequence(alloc, out, line),
@@ -59,24 +62,45 @@ fn show_status(alloc: Global, out: &mut String, line: &str) -> Result<(), AllocE
     )
 }
 
+/// The journal's line of an entry that stands once, or of so many ticks.
 fn show_entry(alloc: Global, out: &mut String, line: &str) -> Result<(), AllocError> {
     let Some(times) = number_at(line, 1) else {
         return no_case(out);
     };
     let rank = RankId(u16_at(line, 3).unwrap_or(0));
-    let entry = match word_at(line, 2) {
-        "tick" => HistoryEntry::Tick { rank },
-        "match" => HistoryEntry::Match {
-            rank,
-            request: u32_at(line, 4).unwrap_or(0),
-            sender: RankId(u16_at(line, 5).unwrap_or(0)),
-        },
-        "gather" => HistoryEntry::Gather { rank },
-        "commit" => HistoryEntry::Commit,
-        _ => return no_case(out),
+    match word_at(line, 2) {
+        "tick" => show_run(alloc, out, Entry::Tick { rank }, times),
+        "match" => {
+            let entry = Entry::Match {
+                rank,
+                request: u32_at(line, 4).unwrap_or(0),
+                sender: RankId(u16_at(line, 5).unwrap_or(0)),
+            };
+            show_run(alloc, out, entry, 1)
+        }
+        "gather" => show_run(alloc, out, Entry::Gather { rank }, 1),
+        "commit" => show_run(alloc, out, Entry::Commit, 1),
+        _ => no_case(out),
+    }
+}
+
+fn show_run(alloc: Global, out: &mut String, entry: Entry, times: u64) -> Result<(), AllocError>
+    requires { MayRepeat entry times }
+{
+    let mut history = History::new(alloc);
+    history.push(EntryRun { entry, times })?;
+    let mut text = Bytes::new(alloc);
+    append_runs(&mut text, history.runs())?;
+    show_bytes(out, text.as_slice())
+}
+
+/// The first line of a journal.
+fn show_header(alloc: Global, out: &mut String, line: &str) -> Result<(), AllocError> {
+    let (Some(ranks), Some(bound)) = (u16_at(line, 1), number_at(line, 2)) else {
+        return no_case(out);
     };
     let mut text = Bytes::new(alloc);
-    append_entry(&mut text, entry, times)?;
+    append_header(&mut text, ranks, bound)?;
     show_bytes(out, text.as_slice())
 }
 
