@@ -6,7 +6,7 @@ use Rattle.am_io.specs.Contents.{Held, Loads, bytes_of}
 use Rattle.c_model.specs.declared.tree.Program.{Program}
 use Rattle.c_model.specs.Need.{Pending, Fits, IsSimple, IsTooComplex, pending_limit, all_pending}
 use Rattle.run_words.specs.Words.{Asked, AskForRun}
-use Rattle.run_words.specs.Asks.{IsAccepted as IsAskedBy}
+use Rattle.run_words.specs.Asks.{IsAskedBy}
 use Rattle.run_words.specs.declared.command.Command.{Command}
 use Rattle.run_words.proofs.ReadingLemmas.{one_run}
 use Rattle.run_words.proofs.RankLemmas.{few-ranks, bounded-ticks}

@@ -1,3 +1,4 @@
+//! The texts of a run, put one after another.
 ghost use Rattle.std.specs.Prelude.{◌≡◌, ◌≤◌, ◌⊎◌, IfOk, OnOk, OnErr, IsErrOf};
 ghost use Rattle.am_io.specs.Faults.{Rose};
 ghost use Rattle.thin_run.specs.Group.{setting};

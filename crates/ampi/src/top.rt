@@ -1,6 +1,7 @@
+//! The top call: words, file, source and run, in this order.
 ghost use Rattle.std.specs.Prelude.{◌≡◌, ◌≤◌, ◌⊎◌, ℕ, length, string_bytes};
 ghost use Rattle.am_io.specs.Faults.{Rose};
-ghost use Rattle.run_words.specs.Asks.{bytes_of_words, IsAccepted as IsAskedBy};
+ghost use Rattle.run_words.specs.Asks.{bytes_of_words, IsAskedBy};
 ghost use Rattle.vm_code.specs.Means.{Means};
 ghost use Rattle.thin_compile.specs.Source.{IsCompiled};
 ghost use Rattle.ampi.specs.Answers.{Answers, IsUsage, IsLoaded, reads, source_limit, status_of};

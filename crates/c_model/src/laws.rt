@@ -1,3 +1,4 @@
+//! What holds of lines.
 ghost use Rattle.std.specs.Prelude.{List, ℕ};
 ghost use Rattle.c_model.specs.Lines.{AreTheCut};
 

@@ -1,3 +1,4 @@
+//! The tree of a program, and how a run of it stands.
 use am_base::{Bytes, TrapCause};
 use sqlite_items::{Boxed, Items};
 

@@ -1,3 +1,4 @@
+//! The lines of what a rank printed.
 ghost use Rattle.std.specs.Prelude.{◌≡◌, ◌++◌, OnOk, IfOk};
 ghost use Rattle.c_model.specs.Lines.{whole_lines, unfinished, last_line};
 ghost use Rattle.std.specs.List.{flat_map};

@@ -1,3 +1,4 @@
+//! The report: how each rank stands, and how the run ended.
 ghost use Rattle.std.specs.Prelude.{◌≡◌, ◌++◌, OnOk};
 ghost use Rattle.w_model.specs.Texts.{rank_line, state_text, end_line};
 
