@@ -3,8 +3,8 @@ ghost use Rattle.am_io.specs.Faults.{Rose};
 ghost use Rattle.run_words.specs.Asks.{bytes_of_words, IsAccepted as IsAskedBy};
 ghost use Rattle.vm_code.specs.Means.{Means};
 ghost use Rattle.thin_compile.specs.Source.{IsCompiled};
-ghost use Rattle.ampi.specs.Answers.{Answers, IsUsage, IsLoaded, source_limit, status_of};
-ghost use Rattle.ampi.specs.Runs.{puts};
+ghost use Rattle.ampi.specs.Answers.{Answers, IsUsage, IsLoaded, reads, source_limit, status_of};
+ghost use Rattle.ampi.specs.Puts.{puts};
 ghost use Rattle.ampi.specs.Yields.{Yields, Comes};
 
 use crate::Status;
@@ -33,7 +33,8 @@ pub fn ampi<F: Files, K: Sink, J: Sink>(
     journal: &mut J,
 ) -> Status
     // What was put at each answer, and what it tells of the words and files. At `Done` it is the headline.
-    ensures answers { Answers (bytes_of_words words.now) (F.held files.old)
+    ensures answers { Answers (bytes_of_words words.now)
+        (reads (F.held files.old) (F.faults files.old) (F.faults files.new))
         (puts (K.written out.old) (K.written out.new) (J.written journal.old) (J.written journal.new)) result }
 
     // When each answer comes: it yields to no other but a write that fails and want of memory.
@@ -62,7 +63,8 @@ fn run_file<F: Files, K: Sink, J: Sink>(
 ) -> Status
     requires few { command.now.ranks ≤ 256 }
     requires bounded { command.now.ticks ≤ 16000000 }
-    ensures answers { (words : _) → IsAskedBy words command.now → Answers words (F.held files.old)
+    ensures answers { (words : _) → IsAskedBy words command.now
+        → Answers words (reads (F.held files.old) (F.faults files.old) (F.faults files.new))
         (puts (K.written out.old) (K.written out.new) (J.written journal.old) (J.written journal.new)) result }
     ensures read_fault { (file : ℕ) → result ≡ Status.ReadFault file → Rose (F.faults files.old) (F.faults files.new) }
     ensures write_fault { result ≡ Status.WriteFault
@@ -107,8 +109,8 @@ fn run_text<K: Sink, J: Sink>(
     requires few { command.now.ranks ≤ 256 }
     requires bounded { command.now.ticks ≤ 16000000 }
     requires short { length text.now ≤ source_limit }
-    ensures answers { (words : _) (held : _) → IsAskedBy words command.now → IsLoaded held (string_bytes command.now.file) text.now
-        → Answers words held
+    ensures answers { (words : _) (r : _) → IsAskedBy words command.now
+        → IsLoaded r.held (string_bytes command.now.file) text.now → Answers words r
         (puts (K.written out.old) (K.written out.new) (J.written journal.old) (J.written journal.new)) result }
     ensures no_read_fault { (file : ℕ) → result ≡ Status.ReadFault file → ⊥ }
     ensures write_fault { result ≡ Status.WriteFault
@@ -137,9 +139,9 @@ fn run_compiled<K: Sink, J: Sink>(
     requires means { Means compiled.now.code compiled.now.program }
     requires few { command.now.ranks ≤ 256 }
     requires bounded { command.now.ticks ≤ 16000000 }
-    ensures answers { (words : _) (held : _) (text : _) → IsAskedBy words command.now
-        → IsLoaded held (string_bytes command.now.file) text → IsCompiled text compiled.now
-        → Answers words held
+    ensures answers { (words : _) (r : _) (text : _) → IsAskedBy words command.now
+        → IsLoaded r.held (string_bytes command.now.file) text → IsCompiled text compiled.now
+        → Answers words r
         (puts (K.written out.old) (K.written out.new) (J.written journal.old) (J.written journal.new)) result }
     ensures no_read_fault { (file : ℕ) → result ≡ Status.ReadFault file → ⊥ }
     ensures write_fault { result ≡ Status.WriteFault

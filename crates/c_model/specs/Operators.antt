@@ -8,8 +8,8 @@ use Rattle.c_model.specs.declared.tree.UnaryOp.{UnaryOp}
 use Rattle.c_model.specs.declared.tree.UnaryOp.TheVariants as unary
 use Rattle.c_model.specs.declared.tree.BinaryOp.{BinaryOp}
 use Rattle.c_model.specs.declared.tree.BinaryOp.TheVariants as binary
-use Rattle.c_model.specs.declared.tree.TrapCause.{TrapCause}
-use Rattle.c_model.specs.declared.tree.TrapCause.TheVariants.{DivisionByZero, DivisionOverflow, ShiftCount}
+use Rattle.am_base.specs.declared.traps.TrapCause.{TrapCause}
+use Rattle.am_base.specs.declared.traps.TrapCause.TheVariants.{DivisionByZero, DivisionOverflow, ShiftCount}
 
 -- What an operator gives: a value, or a trap.
 pub data Result : Type 0 where

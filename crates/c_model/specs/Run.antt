@@ -11,8 +11,8 @@ use Rattle.c_model.specs.declared.tree.Stmt.{Stmt, fold-Stmt}
 use Rattle.c_model.specs.declared.tree.Stmt.TheOpen.{Stmt-F}
 use Rattle.c_model.specs.declared.tree.Program.{Program}
 use Rattle.c_model.specs.declared.tree.Trap.{Trap}
-use Rattle.c_model.specs.declared.tree.TrapCause.{TrapCause}
-use Rattle.c_model.specs.declared.tree.TrapCause.TheVariants.{TextLimit}
+use Rattle.am_base.specs.declared.traps.TrapCause.{TrapCause}
+use Rattle.am_base.specs.declared.traps.TrapCause.TheVariants.{TextLimit}
 use Rattle.c_model.specs.declared.tree.Ending.{Ending}
 use Rattle.c_model.specs.declared.tree.Ending.TheVariants.{Paused, Ended, Trapped}
 use Rattle.c_model.specs.Operators.{Result, Gives, Traps, truth, is_true, operate_one, operate}

@@ -5,4 +5,4 @@ mod laws;
 mod tree;
 
 pub use laws::lines_are_the_cut;
-pub use tree::{BinaryOp, Ending, Expr, FullExpr, Program, Stmt, Trap, TrapCause, UnaryOp};
+pub use tree::{BinaryOp, Ending, Expr, FullExpr, Program, Stmt, Trap, UnaryOp};

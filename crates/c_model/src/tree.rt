@@ -1,4 +1,4 @@
-use am_base::Bytes;
+use am_base::{Bytes, TrapCause};
 use sqlite_items::{Boxed, Items};
 
 /// An operator on one whole number (C11, 6.5.3.3).
@@ -124,19 +124,6 @@ pub struct Program {
     pub line: u32,
     pub locals: u16,
     pub body: Items<Stmt>,
-}
-
-/// Why a run on one rank was trapped.
-#[derive(Clone, Copy, Debug, PartialEq, Eq)]
-pub enum TrapCause {
-    /// A quotient or remainder by 0.
-    DivisionByZero,
-    /// The least number divided by -1.
-    DivisionOverflow,
-    /// A shift by a negative number, or by 32 or more.
-    ShiftCount,
-    /// A print past the bytes that a rank may print.
-    TextLimit,
 }
 
 /// A trap, with the line of the innermost statement or initialised declarator that was being executed.

@@ -3,7 +3,7 @@ use Rattle.std.proofs.Common.{◌≡◌, ℕ, zero, suc, ℤ, pos, ◌+◌, ◌�
 use Rattle.std.specs.Prelude.{slice_get, nat_le, if◌then◌else◌}
 use Rattle.c_model.specs.declared.tree.Ending.{Ending}
 use Rattle.c_model.specs.declared.tree.Ending.TheVariants.{Paused}
-use Rattle.c_model.specs.declared.tree.TrapCause.TheVariants.{TextLimit}
+use Rattle.am_base.specs.declared.traps.TrapCause.TheVariants.{TextLimit}
 use Rattle.c_model.specs.declared.tree.UnaryOp.{UnaryOp}
 use Rattle.c_model.specs.declared.tree.BinaryOp.{BinaryOp}
 use Rattle.c_model.specs.Operators.{Result, Gives, Traps, is_true, operate_one, operate}

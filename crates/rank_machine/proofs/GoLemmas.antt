@@ -9,7 +9,7 @@ use Rattle.std.specs.Prelude.{ℤ, get_or, slice_get, nat_le, if◌then◌else�
 use Rattle.c_model.specs.declared.tree.Ending.{Ending}
 use Rattle.c_model.specs.declared.tree.Ending.TheVariants.{Paused, Ended, Trapped}
 use Rattle.c_model.specs.declared.tree.BinaryOp.{BinaryOp}
-use Rattle.c_model.specs.declared.tree.TrapCause.TheVariants.{TextLimit}
+use Rattle.am_base.specs.declared.traps.TrapCause.TheVariants.{TextLimit}
 use Rattle.c_model.specs.Operators.{Result, Gives, Traps, is_true, operate}
 use Rattle.c_model.specs.Run.{Answer, Outcome, text_limit}
 use Rattle.vm_code.specs.declared.code.Code.{Code}

@@ -1,13 +1,16 @@
 -- One instruction, by what its function does.
-use Rattle.std.proofs.Common.{ℕ, ◌≡◌, List, ap, subst, sym, ◌∙◌, Option, Some, IfOk, Result}
+use Rattle.std.proofs.Common.{ℕ, ◌≡◌, List, ap, subst, sym, ◌∙◌, Option, Some, IfOk, Result, Err}
 use Rattle.std.proofs.lemmas.Result.{IfOk-weaker}
 use Rattle.c_model.specs.declared.tree.Ending.{Ending}
 use Rattle.c_model.specs.Run.{Answer}
+use Rattle.c_model.specs.Operators.{Gives, Traps}
+use Rattle.c_model.specs.Operators as ops
+use Rattle.am_base.specs.declared.traps.TrapCause.{TrapCause}
 use Rattle.vm_code.specs.declared.instr.Instr.{Instr}
 use Rattle.vm_code.specs.Machine.{Moved, act}
 use Rattle.rank_machine.specs.declared.machine.Machine.{Machine}
 use Rattle.rank_machine.specs.Runs.{config_of}
-use Rattle.rank_machine.specs.Steps.{Moves}
+use Rattle.rank_machine.specs.Steps.{Moves, as_result}
 
 pub moves-by : (did : ℕ → List Answer → Moved) (literals : List (List ℕ)) (instr i : Instr) (old new : Machine) (left : ℕ)
     {E : Type 0} (r : Result (Option Ending) E)
@@ -29,3 +32,8 @@ moves-at did literals instr i old new left stopped is instr_is moves a =
     let P : Moved → Type 0 = λ x. Moves x stopped (config_of new left a) in
     let same : did left a ≡ act literals (Some instr) (config_of old left a) = is left a ∙ ap (λ k. act literals (Some k) (config_of old left a)) (sym instr_is) in
     subst P same (moves left a)
+
+-- an operator that gives an error traps
+pub traps-of : (r : ops.Result) (cause : TrapCause) → as_result r ≡ Err cause → r ≡ Traps cause
+traps-of (Gives x) cause e = cc
+traps-of (Traps why) cause e = cc

@@ -1,7 +1,7 @@
 -- One step of a machine.
 use Rattle.std.specs.Prelude.{ℕ, ◌≡◌, ◌≢◌, ℤ, pos, negsuc, nat_lt, if◌then◌else◌, Bool, true, false, ◌+◌, Result, Ok, Err, Option, Some, None}
-use Rattle.c_model.specs.declared.tree.TrapCause.{TrapCause}
-use Rattle.c_model.specs.declared.tree.TrapCause.TheVariants.{ShiftCount}
+use Rattle.am_base.specs.declared.traps.TrapCause.{TrapCause}
+use Rattle.am_base.specs.declared.traps.TrapCause.TheVariants.{ShiftCount}
 use Rattle.c_model.specs.declared.tree.Ending.{Ending}
 use Rattle.c_model.specs.Operators.{Gives, Traps}
 use Rattle.c_model.specs.Operators as ops

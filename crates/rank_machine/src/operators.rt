@@ -3,7 +3,8 @@ ghost use Rattle.c_model.specs.Operators.{operate, operate_one, truth, is_true, 
 ghost use Rattle.std.specs.Prelude.{int_div, int_rem};
 ghost use Rattle.rank_machine.specs.Steps.{as_result, shift_count};
 
-use c_model::{BinaryOp, TrapCause, UnaryOp};
+use am_base::TrapCause;
+use c_model::{BinaryOp, UnaryOp};
 
 /// The value of a test.
 fn truth(is: bool) -> i32

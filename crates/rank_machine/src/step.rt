@@ -8,7 +8,8 @@ ghost use Rattle.c_model.specs.declared.tree.Ending.TheVariants.{Ended};
 
 use crate::machine::Machine;
 use crate::operators::{operate, operate_one};
-use c_model::{BinaryOp, Ending, Trap, TrapCause, UnaryOp};
+use am_base::TrapCause;
+use c_model::{BinaryOp, Ending, Trap, UnaryOp};
 use std::alloc::AllocError;
 use vm_code::{Code, Instr};
 

@@ -6,7 +6,7 @@ use Rattle.std.proofs.lemmas.Grind.{flat_map-append}
 use Rattle.std.proofs.lemmas.Iterator.Adapters.{position_from-zero}
 use Rattle.std.specs.List.{sum_by, AllByRecursion}
 use Rattle.c_model.specs.declared.tree.Program.{Program}
-use Rattle.w_model.specs.declared.entries.Entry.{Entry}
+use Rattle.mpi_types.specs.declared.entries.Entry.{Entry}
 use Rattle.w_model.specs.World.{Setting, World, world_of, start_world}
 use Rattle.thin_run.specs.declared.rank.Rank.{Rank}
 use Rattle.thin_run.specs.Group.{setting, IsPart, ticks_left, Stand}
@@ -18,7 +18,8 @@ use Rattle.c_model.specs.Lines.{lines_of, lines_behind, part_behind, whole_lines
 use Rattle.w_model.specs.declared.report.End.{End}
 use Rattle.w_model.specs.declared.report.End.TheVariants.{Done, Deadlock, OutOfTicks}
 use Rattle.w_model.specs.World.{outcome_at}
-use Rattle.w_model.specs.Cut.{lines_at, lines_since, released_line, rank_numbers}
+use Rattle.am_base.specs.Released.{released_line}
+use Rattle.w_model.specs.Cut.{lines_at, lines_since, rank_numbers}
 use Rattle.w_model.specs.Texts.{rank_line, rank_line_at, is_at_bound, is_unended, is_trapped, first_trapped, end_of, end_untrapped, end_at}
 use Rattle.vm_code.specs.declared.code.Code.{Code}
 use Rattle.vm_code.specs.Machine.{outcome_of}

@@ -2,8 +2,8 @@
 use Rattle.std.specs.Prelude.{ℕ, zero, suc, ◌+◌, ℤ, pos, negsuc, if◌then◌else◌, nat_le, List, [], ◌∷◌, ◌++◌, length, replicate, Option, Some, None, slice_get}
 use Rattle.c_model.specs.declared.tree.Ending.{Ending}
 use Rattle.c_model.specs.declared.tree.Ending.TheVariants.{Paused, Ended, Trapped}
-use Rattle.c_model.specs.declared.tree.TrapCause.{TrapCause}
-use Rattle.c_model.specs.declared.tree.TrapCause.TheVariants.{TextLimit}
+use Rattle.am_base.specs.declared.traps.TrapCause.{TrapCause}
+use Rattle.am_base.specs.declared.traps.TrapCause.TheVariants.{TextLimit}
 use Rattle.c_model.specs.Operators.{Result, Gives, Traps, is_true, operate_one, operate}
 use Rattle.c_model.specs.Run.{Answer, Outcome, load, store, text_limit}
 use Rattle.vm_code.specs.declared.code.Code.{Code}

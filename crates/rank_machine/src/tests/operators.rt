@@ -1,6 +1,6 @@
 use crate::operators::{operate, operate_one};
-use am_base::{Bytes, signed_decimal};
-use c_model::{BinaryOp, TrapCause, UnaryOp};
+use am_base::{Bytes, TrapCause, signed_decimal};
+use c_model::{BinaryOp, UnaryOp};
 use std::alloc::{AllocError, Global};
 use std::test::Fail;
 
@@ -252,7 +252,7 @@ fn append_result(out: &mut Bytes, given: Result<i32, TrapCause>) -> Result<(), A
         Err(TrapCause::DivisionByZero) => out.append(b"zero"),
         Err(TrapCause::DivisionOverflow) => out.append(b"overflow"),
         Err(TrapCause::ShiftCount) => out.append(b"count"),
-        Err(TrapCause::TextLimit) => out.append(b"limit"),
+        Err(_) => out.append(b"another"),
     }
 }
 

@@ -2,7 +2,8 @@ ghost use Rattle.vm_code.specs.Means.{Means};
 
 use super::programs::{adds_up, compile, computes, prints};
 use crate::{Machine, go, runs_join};
-use c_model::{BinaryOp, Ending, Trap, TrapCause};
+use am_base::TrapCause;
+use c_model::{BinaryOp, Ending, Trap};
 use std::alloc::{AllocError, Global};
 use std::test::Fail;
 use vm_code::Compiled;

@@ -1,8 +1,8 @@
 use super::programs::prints;
 use crate::step::step;
 use crate::{Locals, Machine, Operands};
-use am_base::Bytes;
-use c_model::{BinaryOp, Ending, Trap, TrapCause, UnaryOp};
+use am_base::{Bytes, TrapCause};
+use c_model::{BinaryOp, Ending, Trap, UnaryOp};
 use codegen::{GenError, generate};
 use std::alloc::{AllocError, Global};
 use std::process::Abort;
