@@ -75,6 +75,7 @@ fn call_of(alloc: Global, line: &str) -> Result<Option<BookCall>, AllocError> {
         "arrive" => arrival_of(alloc, line),
         "peek" => peek_of(alloc, line),
         "lists" => Ok(Some(BookCall::AskLists)),
+        "count" => Ok(Some(BookCall::AskCount)),
         word => Ok(request_call(word, u32_at(line, 1))),
     }
 }
@@ -83,6 +84,7 @@ fn request_call(word: &str, request: Option<u32>) -> Option<BookCall> {
     let request = request?;
     match word {
         "complete" => Some(BookCall::Complete(request)),
+        "live" => Some(BookCall::AskLive(request)),
         "matched" => Some(BookCall::AskMatched(request)),
         "receive" => Some(BookCall::AskReceive(request)),
         "message" => Some(BookCall::AskMessage(request)),
@@ -157,7 +159,7 @@ fn show_answer(out: &mut String, answer: &BookAnswer) -> Result<(), AllocError> 
         BookAnswer::Met(None) => out.push_str("none met"),
         BookAnswer::Completed(Completion::Done(message)) => show_message(out, message),
         BookAnswer::Completed(Completion::NotYet) => out.push_str("not yet"),
-        BookAnswer::Matched(matched) => write!(out, "{matched}"),
+        BookAnswer::Live(answer) | BookAnswer::Matched(answer) => write!(out, "{answer}"),
         BookAnswer::Receive(receive) => write!(out, "receive {}", receive.request),
         BookAnswer::Found(Some(message)) => show_message(out, message),
         BookAnswer::Found(None) => out.push_str("no message"),
@@ -169,6 +171,7 @@ fn show_answer(out: &mut String, answer: &BookAnswer) -> Result<(), AllocError> 
                 lists.arrived.len()
             )
         }
+        BookAnswer::Count(count) => write!(out, "{count} live"),
         BookAnswer::Refused => out.push_str("refused"),
     }
 }
