@@ -4,3 +4,4 @@ pub mod HeapLemmas
 pub mod KindLemmas
 pub mod OperatorLemmas
 pub mod LineLemmas
+pub mod PartLemmas

@@ -9,6 +9,7 @@ mod lists;
 mod mem;
 mod numbers;
 mod operators;
+mod parts;
 mod run;
 mod width;
 
@@ -17,7 +18,7 @@ pub use heap::{Block, MOST_BLOCKS, first_fit, first_fit_is_one, spelled_heap_is_
 pub use kinds::{Kind, convert, extended, usual, words_are_extended};
 pub use layout::{
     CONTROL_START, DESCRIPTORS_START, GLOBALS_START, HEAP_START, PAGE_BYTES, PAGES, RANGE_BYTES,
-    STACK_START, base, is_accessible, place_of,
+    STACK_START, base, is_accessible, place_of, place_of_bytes,
 };
 pub use lists::{OffsetList, WordList};
 pub use mem::{BadAddress, Mem};
