@@ -2,7 +2,7 @@
 ghost use Rattle.std.specs.Prelude.{◌≡◌, ◌≤◌, ◌⊎◌, ℕ, length, string_bytes};
 ghost use Rattle.am_io.specs.Faults.{Rose};
 ghost use Rattle.run_words.specs.Asks.{bytes_of_words, IsAskedBy};
-ghost use Rattle.vm_code.specs.Means.{Means};
+ghost use Rattle.thin_code.specs.Means.{Means};
 ghost use Rattle.thin_compile.specs.Source.{IsCompiled};
 ghost use Rattle.ampi.specs.Answers.{Answers, IsUsage, IsLoaded, reads, source_limit, status_of};
 ghost use Rattle.ampi.specs.Puts.{puts};
@@ -15,7 +15,7 @@ use am_io::{Files, LoadError, SayError, Sink};
 use run_words::{Command, WordsError, read_words};
 use std::alloc::Global;
 use thin_compile::{CompileError, compile};
-use vm_code::Compiled;
+use thin_code::Compiled;
 use w_model::End;
 
 /// The longest source, in bytes.

@@ -1,11 +1,11 @@
 //! The lines of what a rank printed.
 ghost use Rattle.std.specs.Prelude.{◌≡◌, ◌++◌, OnOk, IfOk};
-ghost use Rattle.c_model.specs.Lines.{whole_lines, unfinished, last_line};
+ghost use Rattle.thin_model.specs.Lines.{whole_lines, unfinished, last_line};
 ghost use Rattle.std.specs.List.{flat_map};
 ghost use Rattle.am_base.specs.Released.{released_line};
 
 use am_base::{Bytes, RankId, append_released};
-use c_model::Ending;
+use thin_model::Ending;
 use std::alloc::AllocError;
 
 /// The bytes after which a line ends by itself.

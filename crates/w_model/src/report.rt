@@ -3,7 +3,7 @@ ghost use Rattle.std.specs.Prelude.{◌≡◌, ◌++◌, OnOk};
 ghost use Rattle.w_model.specs.Texts.{rank_line, state_text, end_line};
 
 use am_base::{Bytes, ProcId, RankId, decimal, signed_decimal};
-use c_model::Ending;
+use thin_model::Ending;
 use std::alloc::AllocError;
 
 /// How a run that is stuck ended.
