@@ -11,8 +11,8 @@ use am_base::Bytes;
 use am_io::{SayError, Sink, say};
 use mpi_types::append_header;
 use std::alloc::{AllocError, Global};
-use thin_run::run;
 use thin_code::Compiled;
+use thin_run::run;
 use w_model::End;
 
 /// Runs the program of a file on so many ranks, with a bound on the ticks of each, and puts the journal, the lines and the

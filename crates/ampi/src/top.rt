@@ -14,8 +14,8 @@ use crate::run::put_run;
 use am_io::{Files, LoadError, SayError, Sink};
 use run_words::{Command, WordsError, read_words};
 use std::alloc::Global;
-use thin_compile::{CompileError, compile};
 use thin_code::Compiled;
+use thin_compile::{CompileError, compile};
 use w_model::End;
 
 /// The longest source, in bytes.

@@ -5,9 +5,9 @@ ghost use Rattle.thin_codegen.specs.Making.{Adds, AddsHole};
 
 use crate::draft::Draft;
 use am_base::Bytes;
-use thin_model::{Expr, FullExpr, Stmt};
 use std::alloc::{AllocError, Global};
 use thin_code::Instr;
+use thin_model::{Expr, FullExpr, Stmt};
 
 /// The code of an expression. The line is that of a trap.
 pub fn emit_expr(draft: &mut Draft, expr: &Expr, line: u32) -> Result<(), AllocError>

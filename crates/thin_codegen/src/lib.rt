@@ -12,11 +12,11 @@ mod draft;
 mod emit;
 mod error;
 
-use thin_model::Program;
 use draft::Draft;
 pub use error::GenError;
 use std::alloc::{AllocError, Global};
 use thin_code::{Code, Instr};
+use thin_model::Program;
 
 /// Makes code that means the program: wherever the program's run stands, the machine stops there too.
 ///

@@ -1,8 +1,8 @@
 use super::*;
 use am_base::Bytes;
-use thin_model::{BinaryOp, Expr, FullExpr, Stmt, UnaryOp};
 use sqlite_items::{Boxed, Items};
 use std::test::Fail;
+use thin_model::{BinaryOp, Expr, FullExpr, Stmt, UnaryOp};
 
 /// Statements and expressions of the tests stand on these lines.
 const LINE: u32 = 7;

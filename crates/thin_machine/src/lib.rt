@@ -17,13 +17,13 @@ mod tests;
 
 use crate::step::step;
 use am_base::Bytes;
-use thin_model::Ending;
 pub use laws::runs_join;
 pub use locals::Locals;
 pub use machine::Machine;
 pub use operands::Operands;
 use std::alloc::{AllocError, Global};
 use thin_code::Code;
+use thin_model::Ending;
 
 impl Machine {
     /// A machine before its first instruction.

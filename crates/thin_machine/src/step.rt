@@ -9,9 +9,9 @@ ghost use Rattle.thin_model.specs.declared.tree.Ending.TheVariants.{Ended};
 use crate::machine::Machine;
 use crate::operators::{operate, operate_one};
 use am_base::TrapCause;
-use thin_model::{BinaryOp, Ending, Trap, UnaryOp};
 use std::alloc::AllocError;
 use thin_code::{Code, Instr};
+use thin_model::{BinaryOp, Ending, Trap, UnaryOp};
 
 /// How many bytes a rank may print.
 const TEXT_LIMIT: usize = 1_048_576;

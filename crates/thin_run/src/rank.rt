@@ -1,9 +1,9 @@
 ghost use Rattle.std.specs.Prelude.{◌≡◌, ◌+◌, ◌≤◌, ◌<◌, ◌^◌, IfOk};
 
-use thin_model::Ending;
-use thin_machine::{Machine, go};
 use std::alloc::{AllocError, Global};
 use thin_code::Compiled;
+use thin_machine::{Machine, go};
+use thin_model::Ending;
 
 /// One rank's run so far: its machine, and how it stands.
 #[derive(Debug, Drop)]

@@ -5,8 +5,8 @@ ghost use Rattle.std.specs.List.{flat_map};
 ghost use Rattle.am_base.specs.Released.{released_line};
 
 use am_base::{Bytes, RankId, append_released};
-use thin_model::Ending;
 use std::alloc::AllocError;
+use thin_model::Ending;
 
 /// The bytes after which a line ends by itself.
 const LINE_LIMIT: usize = 4096;

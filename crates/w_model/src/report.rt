@@ -3,8 +3,8 @@ ghost use Rattle.std.specs.Prelude.{◌≡◌, ◌++◌, OnOk};
 ghost use Rattle.w_model.specs.Texts.{rank_line, state_text, end_line};
 
 use am_base::{Bytes, ProcId, RankId, decimal, signed_decimal};
-use thin_model::Ending;
 use std::alloc::AllocError;
+use thin_model::Ending;
 
 /// How a run that is stuck ended.
 #[derive(Clone, Copy, Debug, PartialEq, Eq)]

@@ -1,8 +1,8 @@
 use crate::operators::{operate, operate_one};
 use am_base::{Bytes, TrapCause, signed_decimal};
-use thin_model::{BinaryOp, UnaryOp};
 use std::alloc::{AllocError, Global};
 use std::test::Fail;
+use thin_model::{BinaryOp, UnaryOp};
 
 const VALUES: [i32; 10] = [0, 1, -1, 2, 7, -7, 31, 32, i32::MAX, i32::MIN];
 

@@ -2,11 +2,11 @@ ghost use Rattle.std.specs.Prelude.{IfOk};
 ghost use Rattle.thin_code.specs.Means.{Means};
 
 use am_base::Bytes;
-use thin_model::{BinaryOp, Expr, FullExpr, Program, Stmt};
-use thin_codegen::{GenError, generate};
 use sqlite_items::{Boxed, Items};
 use std::alloc::{AllocError, Global};
 use thin_code::Compiled;
+use thin_codegen::{GenError, generate};
+use thin_model::{BinaryOp, Expr, FullExpr, Program, Stmt};
 
 pub fn compile(alloc: Global, program: Program) -> Result<Compiled, GenError>
     ensures { IfOk result (λ compiled. Means compiled.code compiled.program) }

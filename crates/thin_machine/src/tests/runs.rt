@@ -3,10 +3,10 @@ ghost use Rattle.thin_code.specs.Means.{Means};
 use super::programs::{adds_up, compile, computes, prints};
 use crate::{Machine, go, runs_join};
 use am_base::TrapCause;
-use thin_model::{BinaryOp, Ending, Trap};
 use std::alloc::{AllocError, Global};
 use std::test::Fail;
 use thin_code::Compiled;
+use thin_model::{BinaryOp, Ending, Trap};
 
 /// A machine behind one run.
 fn in_one(alloc: Global, compiled: &Compiled, ticks: u32) -> Result<(Machine, Ending), AllocError>

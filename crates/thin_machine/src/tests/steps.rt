@@ -2,12 +2,12 @@ use super::programs::prints;
 use crate::step::step;
 use crate::{Locals, Machine, Operands};
 use am_base::{Bytes, TrapCause};
-use thin_model::{BinaryOp, Ending, Trap, UnaryOp};
-use thin_codegen::{GenError, generate};
 use std::alloc::{AllocError, Global};
 use std::process::Abort;
 use std::test::Fail;
 use thin_code::{Code, Instr};
+use thin_codegen::{GenError, generate};
+use thin_model::{BinaryOp, Ending, Trap, UnaryOp};
 
 /// One instruction on a machine at place 7 with 5 ticks, the text `ab` and the locals 10 and 11, and how that stands
 /// behind it. The topmost operand is the last one.
