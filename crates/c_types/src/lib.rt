@@ -1,0 +1,19 @@
+//! The types of C, how objects and frames are laid out, and the typed program.
+#![tactic(auto)]
+
+mod ctype;
+mod expression;
+mod later;
+mod names;
+mod program;
+mod statement;
+
+pub use ctype::{Base, CType, FunctionType, Member, Part, StructLayout, StructType};
+pub use expression::{Counted, Direction, Expr, FullExpr, Given, OffsetBy, Operand, Step};
+pub use later::{Binary, Kind, LibCall, MpiCall, Unary};
+pub use names::{Entry, Named, Names, Tag, Tagged};
+pub use program::{
+    Body, DefinedFunction, Fix, Function, Initial, Main, Parameter, Program, StaticObject, TokenAt,
+    Use, Used,
+};
+pub use statement::{Case, Declared, Span, Stmt, Store, Stored};
