@@ -1,1 +1,5 @@
 pub mod Fields
+pub mod Traps
+pub mod Calls
+pub mod Headers
+pub mod Released

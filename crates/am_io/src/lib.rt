@@ -8,8 +8,6 @@ mod memory_files;
 mod memory_sinks;
 mod saying;
 mod sinks;
-#[cfg(test)]
-mod tests;
 
 pub use files::{Files, LoadError};
 pub use host::{FileSink, FsFiles, OutSink};

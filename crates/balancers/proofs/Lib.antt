@@ -1,4 +1,3 @@
-pub mod PlacedLemmas
 pub mod RotationLemmas
 pub mod SpreadLemmas
 pub mod SumLemmas

@@ -12,6 +12,3 @@ pub use plan::Plan;
 pub use refining::refine;
 pub use rotation::rotate;
 pub use spreading::greedy;
-
-#[cfg(test)]
-mod tests;

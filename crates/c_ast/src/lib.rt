@@ -23,6 +23,3 @@ pub use words::{AssignOp, BinaryOp, Name, NumberType, PrefixOp, Qualifier, Stora
 pub fn each_has_a_leaf()
     ensures { HasLeaf }
 {}
-
-#[cfg(test)]
-mod tests;

@@ -52,6 +52,3 @@ pub fn one_answer()
     ensures some { (text : List ℕ) → (answer : Answer) × IsAnswer text answer }
     ensures only { (text : List ℕ) (a b : Answer) → IsAnswer text a → IsAnswer text b → a ≡ b }
 {}
-
-#[cfg(test)]
-mod tests;

@@ -9,6 +9,3 @@ mod nodes;
 mod zero;
 
 pub use heap::{BadFree, give, other_bytes_tell_nothing, setup, take};
-
-#[cfg(test)]
-mod tests;

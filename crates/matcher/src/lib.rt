@@ -6,6 +6,3 @@ mod list_book;
 mod search;
 
 pub use list_book::ListBook;
-
-#[cfg(test)]
-mod tests;

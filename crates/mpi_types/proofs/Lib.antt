@@ -2,3 +2,4 @@ pub mod ListLemmas
 pub mod BookLemmas
 pub mod OnceLemmas
 pub mod CallLemmas
+pub mod RunLemmas

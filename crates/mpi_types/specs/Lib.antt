@@ -3,5 +3,6 @@ pub mod First
 pub mod Book
 pub mod Post
 pub mod Tables
+pub mod Runs
 pub mod Journal
 pub mod Calls

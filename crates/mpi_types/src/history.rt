@@ -1,59 +1,80 @@
-ghost use Rattle.std.specs.Prelude.{◌≡◌, ◌++◌, OnOk};
-ghost use Rattle.mpi_types.specs.Journal.{entry_line};
+ghost use Rattle.std.specs.Prelude.{◌≡◌, ◌↔◌, ◌+◌, ◌<◌, ◌^◌, [], ◌∷◌, ◌++◌, replicate, length, slice_get, IsTrue, IfOk, IfSome, IfNone, OnOk, OnErr};
+ghost use Rattle.mpi_types.specs.Runs.{MayRepeat, run_behind, are_one_run, runs_of, entries_of};
 
-use am_base::{Bytes, RankId, decimal};
-use std::alloc::AllocError;
+use crate::{Entry, EntryRun};
+use std::alloc::{AllocError, Global};
+use std::marker::Model;
 
-/// What can stand in a history.
-#[derive(Clone, Copy, Debug, PartialEq, Eq)]
-pub enum HistoryEntry {
-    /// The rank takes one tick.
-    Tick {
-        rank: RankId,
-    },
-    /// The rank's posted receive of this request number gets the first message from the sender that it accepts.
-    Match {
-        rank: RankId,
-        request: u32,
-        sender: RankId,
-    },
-    /// The rank gets the list of the collective that it joined.
-    Gather {
-        rank: RankId,
-    },
-    /// The mark up to which a history is released.
-    Commit,
+/// A history, which contracts see as the list of its entries. It keeps equal entries in a row as one run.
+#[derive(Debug, Drop)]
+pub struct History {
+    runs: Vec<EntryRun>,
 }
 
-/// Appends a journal's line of an entry that stands so many times in a row. After an error `out` is only to be
-/// dropped.
-pub fn append_entry(out: &mut Bytes, entry: HistoryEntry, times: u64) -> Result<(), AllocError>
-    ensures { OnOk result (out.new ≡ out.old ++ entry_line entry times) }
-{
-    match entry {
-        HistoryEntry::Tick { rank } => {
-            out.append(b"T ")?;
-            decimal(out, u64::from(rank.0))?;
-            out.append(b" ")?;
-            decimal(out, times)?;
+impl Model for History {
+    ghost use Rattle.std.specs.Prelude.{List, ◌≡◌};
+    ghost use Rattle.mpi_types.specs.declared.entries.Entry.{Entry};
+    ghost use Rattle.mpi_types.specs.Runs.{entries_of, runs_of};
+
+    ghost Value = { List Entry };
+
+    ghost view = { λ h. entries_of h.runs.items };
+
+    ghost invariant = { λ h. runs_of (entries_of h.runs.items) ≡ h.runs.items };
+}
+
+impl History {
+    /// A history without entries.
+    pub fn new(alloc: Global) -> History
+        ensures { result ≡ [] }
+    {
+        History {
+            runs: Vec::new(alloc),
         }
-        HistoryEntry::Match {
-            rank,
-            request,
-            sender,
-        } => {
-            out.append(b"M ")?;
-            decimal(out, u64::from(rank.0))?;
-            out.append(b" ")?;
-            decimal(out, u64::from(request))?;
-            out.append(b" ")?;
-            decimal(out, u64::from(sender.0))?;
-        }
-        HistoryEntry::Gather { rank } => {
-            out.append(b"G ")?;
-            decimal(out, u64::from(rank.0))?;
-        }
-        HistoryEntry::Commit => out.append(b"C")?,
     }
-    out.append(b"\n")
+
+    /// Adds the entry as many times in a row as the run says.
+    pub fn push(&mut self, run: EntryRun) -> Result<(), AllocError>
+        requires once_but_ticks { MayRepeat run.entry run.times }
+        requires fits { length self.old + run.times < 2 ^ 64 }
+        ensures ok { OnOk result (self.new ≡ self.old ++ replicate run.times run.entry) }
+        ensures err { OnErr result (self.new ≡ self.old) }
+    {
+        if run.times == 0 {
+            return Ok(());
+        }
+        add_run(&mut self.runs, run)
+    }
+
+    /// The history as runs, each as long as equal entries stand in a row.
+    pub fn runs(&self) -> &[EntryRun]
+        ensures { result.now ≡ runs_of self.now }
+    {
+        self.runs.as_slice()
+    }
+}
+
+/// Adds a run behind runs, into the last one where it is of ticks of the same rank.
+fn add_run(runs: &mut Vec<EntryRun>, run: EntryRun) -> Result<(), AllocError>
+    requires { length (entries_of runs.old.items) + run.times < 2 ^ 64 }
+    ensures ok { OnOk result (runs.new.items ≡ run_behind runs.old.items run) }
+    ensures err { OnErr result (runs.new.items ≡ runs.old.items) }
+{
+    let count = runs.len();
+    if count > 0 && is_one_run(run.entry, runs[count - 1].entry) {
+        runs[count - 1].times += run.times;
+        return Ok(());
+    }
+    runs.push(run)?;
+    Ok(())
+}
+
+/// Whether both are ticks of one rank.
+fn is_one_run(a: Entry, b: Entry) -> bool
+    ensures { result ≡ are_one_run a b }
+{
+    match (a, b) {
+        (Entry::Tick { rank }, Entry::Tick { rank: other }) => rank == other,
+        _ => false,
+    }
 }

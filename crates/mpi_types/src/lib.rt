@@ -6,7 +6,9 @@ mod book;
 mod calls;
 mod constants;
 mod context;
+mod entries;
 mod history;
+mod journal;
 mod kinds;
 mod lists;
 mod message;
@@ -20,12 +22,11 @@ pub use constants::{
     SUCCESS, UNDEFINED,
 };
 pub use context::{Ctx, DEEPEST, Level};
-pub use history::{HistoryEntry, append_entry};
+pub use entries::{Entry, EntryRun};
+pub use history::History;
+pub use journal::{append_header, append_runs};
 pub use kinds::{Datatype, Operation};
 pub use lists::{BookLists, MatchedPair};
 pub use message::{Hit, Message, Posted, accepts};
 pub use sequence::Sequence;
 pub use status::Status;
-
-#[cfg(test)]
-mod tests;

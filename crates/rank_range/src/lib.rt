@@ -17,6 +17,3 @@ pub use layout::{
 pub use mem::{BadAddress, Mem};
 pub use numbers::{read_number, stored_numbers_are_loaded, write_number};
 pub use width::Width;
-
-#[cfg(test)]
-mod tests;

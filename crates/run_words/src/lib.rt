@@ -7,6 +7,3 @@ mod reading;
 pub use command::{
     Command, WordsError, journal_name, one_meaning, ranks_are_few, read_words, ticks_are_bounded,
 };
-
-#[cfg(test)]
-mod tests;

@@ -15,6 +15,3 @@ pub use event::{Event, Strategy};
 pub use made::{make, turns_suffice};
 pub use printed::{print, printed_is_read};
 pub use reader::{one_answer, read};
-
-#[cfg(test)]
-mod tests;

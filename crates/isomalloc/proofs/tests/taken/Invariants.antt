@@ -1,6 +1,0 @@
-use Rattle.std.proofs.Common.{◌≤◌}
-use Rattle.isomalloc.specs.Heap.{HasHeap}
-use Rattle.isomalloc.proofs.tests.taken.Given as goal
-
-abbrev pub invariant-loop-call : goal.invariant-loop-call
-invariant-loop-call g l = HasHeap (g.M.Mem.rank_of l.memory) (g.M.Mem.bytes_of l.memory) × (l.count ≤ l._call)
