@@ -1,1 +1,5 @@
+pub mod Kinds
+pub mod Sizes
+pub mod Rooms
+pub mod Layouts
 pub mod Need

@@ -34,16 +34,3 @@ pub enum Binary {
     Less,
     AtMost,
 }
-
-#[derive(Clone, Copy, Debug, PartialEq, Eq)]
-pub enum LibCall {
-    Printf,
-    Puts,
-    Malloc,
-}
-
-#[derive(Clone, Copy, Debug, PartialEq, Eq)]
-pub enum MpiCall {
-    Init,
-    Send,
-}

@@ -6,14 +6,20 @@ mod expression;
 mod later;
 mod names;
 mod program;
+mod rooms;
+mod sizes;
 mod statement;
+mod structs;
 
 pub use ctype::{Base, CType, FunctionType, Member, Part, StructLayout, StructType};
 pub use expression::{Counted, Direction, Expr, FullExpr, Given, OffsetBy, Operand, Step};
-pub use later::{Binary, Kind, LibCall, MpiCall, Unary};
+pub use later::{Binary, Kind, Unary};
 pub use names::{Entry, Named, Names, Tag, Tagged};
 pub use program::{
     Body, DefinedFunction, Fix, Function, Initial, Main, Parameter, Program, StaticObject, TokenAt,
     Use, Used,
 };
+pub use rooms::{Rooms, next_is_least};
+pub use sizes::{align, is_complete, layout, size};
 pub use statement::{Case, Declared, Span, Stmt, Store, Stored};
+pub use structs::StructDraft;

@@ -1,5 +1,5 @@
-use crate::{CType, FunctionType, Kind, LibCall, MpiCall, StructType};
-use am_base::Bytes;
+use crate::{CType, FunctionType, Kind, StructType};
+use am_base::{Bytes, LibCall, MpiCall};
 use sqlite_items::Items;
 
 /// The names in scope (C11, 6.2.1), those that were declared last at the end.

@@ -1,0 +1,113 @@
+ghost use Rattle.std.specs.Prelude.{◌≡◌};
+ghost use Rattle.c_types.specs.Kinds.{width_of};
+ghost use Rattle.c_types.specs.Sizes.{layout_of, is_complete_base, is_complete_in, base_size, size_of, base_align, align_of, IsComplete, IsSmall};
+ghost use Rattle.std.specs.Option.{option_copied};
+
+use crate::{Base, CType, Kind, Part, StructLayout, StructType};
+use rank_range::Width;
+
+/// How many bytes an object of the type has.
+#[tactic(auto, unfolding(crate::specs::Sizes::size_of))]
+pub fn size(of: &CType, structs: &[StructType]) -> u64
+    requires complete { IsComplete structs.now of.now }
+    requires small { IsSmall structs.now of.now }
+    ensures { result ≡ size_of structs.now of.now }
+{
+    let mut size = base_size(of.base, structs);
+    for part in of.parts.as_slice() {
+        size = match part {
+            Part::Pointer { .. } => 8,
+            Part::Array(count) => *count * size,
+            Part::OpenArray => 0,
+        };
+    }
+    size
+}
+
+/// What divides each address of an object of the type.
+#[tactic(auto, unfolding(crate::specs::Sizes::align_of))]
+pub fn align(of: &CType, structs: &[StructType]) -> u64
+    requires complete { IsComplete structs.now of.now }
+    ensures { result ≡ align_of structs.now of.now }
+{
+    let mut align = base_align(of.base, structs);
+    for part in of.parts.as_slice() {
+        align = match part {
+            Part::Pointer { .. } => 8,
+            Part::Array(_) | Part::OpenArray => align,
+        };
+    }
+    align
+}
+
+/// Whether the type is complete (C11, 6.2.5p1).
+pub fn is_complete(of: &CType, structs: &[StructType]) -> bool
+    ensures { result ≡ is_complete_in structs.now of.now }
+{
+    let mut complete = is_complete_base(of.base, structs);
+    for part in of.parts.as_slice() {
+        complete = match part {
+            Part::Pointer { .. } => true,
+            Part::Array(_) => complete,
+            Part::OpenArray => false,
+        };
+    }
+    complete
+}
+
+fn is_complete_base(base: Base, structs: &[StructType]) -> bool
+    ensures { result ≡ is_complete_base structs.now base }
+{
+    match base {
+        Base::Void => false,
+        Base::Whole(_) => true,
+        Base::Struct(number) => layout(structs, number).is_some(),
+    }
+}
+
+fn base_size(base: Base, structs: &[StructType]) -> u64
+    ensures { result ≡ base_size structs.now base }
+{
+    match base {
+        Base::Void => 0,
+        Base::Whole(kind) => width(kind).bytes() as u64,
+        Base::Struct(number) => match layout(structs, number) {
+            Some(layout) => layout.size,
+            None => 0,
+        },
+    }
+}
+
+fn base_align(base: Base, structs: &[StructType]) -> u64
+    ensures { result ≡ base_align structs.now base }
+{
+    match base {
+        Base::Void => 1,
+        Base::Whole(kind) => width(kind).bytes() as u64,
+        Base::Struct(number) => match layout(structs, number) {
+            Some(layout) => layout.align,
+            None => 1,
+        },
+    }
+}
+
+/// The layout of the structure with this number, if it is complete.
+pub fn layout(structs: &[StructType], number: u32) -> Option<&StructLayout>
+    ensures { option_copied result ≡ layout_of structs.now number }
+{
+    match sqlite_items::at(structs, number as usize) {
+        Some(found) => found.layout.as_ref(),
+        None => None,
+    }
+}
+
+fn width(kind: Kind) -> Width
+    ensures { result ≡ width_of kind }
+{
+    match kind {
+        Kind::Char | Kind::UnsignedChar => Width::One,
+        Kind::Short | Kind::UnsignedShort => Width::Two,
+        Kind::Int | Kind::Unsigned => Width::Four,
+        Kind::Long | Kind::UnsignedLong => Width::Eight,
+    }
+}
