@@ -9,15 +9,15 @@ use Rattle.c_types.specs.Rooms.{IsLeastMultiple}
 step_apart : (step p q : ℕ) → step * p < step * q → step * p + step ≤ step * q
 step_apart step p q below =
     elim (cases_lt p q) [
-      inl less ↦ let h = mul-le-mul_left {m = p + 1} {n = q} step (omega (arith, less)) in omega (arith, h)
-    | inr more ↦ let h = mul-le-mul_left {m = q} {n = p} step more in omega (arith, h, below)
+      | inl less ↦ let h = mul-le-mul_left {m = p + 1} {n = q} step (omega (arith, less)) in omega (arith, h)
+      | inr more ↦ let h = mul-le-mul_left {m = q} {n = p} step more in omega (arith, h, below)
     ]
 
 multiple : (from step : ℕ) → 0 < step → next_multiple_of from step % step ≡ 0
 multiple from step positive =
     let sum : from + (step - from % step) ≡ step * (from / step) + step = omega (arith, div-add-mod from step, mod-lt from positive) in
     add-mod-mod from (step - from % step) step
-        ∙ (ap (λ n. n % step) sum ∙ (add-mod_right (step * (from / step)) step ∙ mul-mod_right step (from / step)))
+    ∙ (ap (λ n. n % step) sum ∙ (add-mod_right (step * (from / step)) step ∙ mul-mod_right step (from / step)))
 
 whole : (step n : ℕ) → n % step ≡ 0 → step * (n / step) ≡ n
 whole step n is = omega (arith, div-add-mod n step, is)
@@ -29,9 +29,9 @@ least from step other positive is below =
     let next_whole = whole step next (multiple from step positive) in
     let other_whole = whole step other is in
     elim (cases_lt other next) [
-      inl less ↦ let apart = step_apart step (other / step) (next / step) (omega (arith, less, next_whole, other_whole)) in
-        omega (arith, apart, near, next_whole, other_whole, below)
-    | inr most ↦ most
+      | inl less ↦ let apart = step_apart step (other / step) (next / step) (omega (arith, less, next_whole, other_whole)) in
+          omega (arith, apart, near, next_whole, other_whole, below)
+      | inr most ↦ most
     ]
 
 pub next_is_least : (from step : ℕ) → 0 < step → IsLeastMultiple from step (next_multiple_of from step)

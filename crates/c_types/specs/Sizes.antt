@@ -2,6 +2,8 @@
 -- alignment is a whole type's own size, is this profile's own.
 use Rattle.std.specs.Prelude.{ℕ, ◌*◌, ◌≤◌, Bool, true, false, IsTrue, List, [], ◌∷◌, slice_get, Option, Some, None}
 use Rattle.rank_range.specs.Numbers.{bytes_in}
+use Rattle.rank_range.specs.declared.width.Width.{Width}
+use Rattle.rank_range.specs.declared.width.Width.TheVariants.{One, Eight}
 use Rattle.c_types.specs.Kinds.{width_of}
 use Rattle.c_types.specs.declared.ctype.CType.{CType}
 use Rattle.c_types.specs.declared.ctype.Base.{Base}
@@ -31,9 +33,9 @@ abbrev pub size_in : Option StructLayout → ℕ
 size_in (Some l) = l.size
 size_in None = 0
 
-abbrev pub align_in : Option StructLayout → ℕ
+abbrev pub align_in : Option StructLayout → Width
 align_in (Some l) = l.align
-align_in None = 1
+align_in None = One
 
 -- Whether a type is complete: it isn't `void`, nor a structure whose members aren't known, nor an array of a size that isn't
 -- known. A pointer always is.
@@ -89,19 +91,19 @@ abbrev pub IsSmall : Structs → CType → Type 0
 IsSmall structs t = AreSmall (base_size structs t.base) t.parts
 
 -- A whole type has its own size as its alignment, an array that of its elements, and a pointer 8.
-abbrev pub base_align : Structs → Base → ℕ
-base_align structs Void = 1
-base_align structs (Whole kind) = bytes_in (width_of kind)
+abbrev pub base_align : Structs → Base → Width
+base_align structs Void = One
+base_align structs (Whole kind) = width_of kind
 base_align structs (Struct number) = align_in (layout_of structs number)
 
-abbrev pub part_align : ℕ → Part → ℕ
-part_align inner (Pointer is_const) = 8
+abbrev pub part_align : Width → Part → Width
+part_align inner (Pointer is_const) = Eight
 part_align inner (Array count) = inner
 part_align inner OpenArray = inner
 
-abbrev pub align_by : ℕ → List Part → ℕ
+abbrev pub align_by : Width → List Part → Width
 align_by inner [] = inner
 align_by inner (p ∷ ps) = align_by (part_align inner p) ps
 
-unfoldable pub align_of : Structs → CType → ℕ
-align_of structs t = align_by (base_align structs t.base) t.parts
+unfoldable pub alignment_of : Structs → CType → Width
+alignment_of structs t = align_by (base_align structs t.base) t.parts

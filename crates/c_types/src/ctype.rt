@@ -1,5 +1,6 @@
 use crate::Kind;
 use am_base::Bytes;
+use rank_range::Width;
 use sqlite_items::Items;
 
 /// The type of an object (C11, 6.2.5): what it is made from, and how, from the inside outwards. So the last part of the type
@@ -50,7 +51,7 @@ pub struct StructType {
 pub struct StructLayout {
     pub members: Items<Member>,
     pub size: u64,
-    pub align: u64,
+    pub align: Width,
 }
 
 /// A member of a structure, by its offset.

@@ -20,6 +20,6 @@ pub use program::{
     Use, Used,
 };
 pub use rooms::{Rooms, next_is_least};
-pub use sizes::{align, is_complete, layout, size};
+pub use sizes::{align, alignment, is_complete, layout, size};
 pub use statement::{Case, Declared, Span, Stmt, Store, Stored};
 pub use structs::StructDraft;

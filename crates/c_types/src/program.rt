@@ -1,5 +1,6 @@
 use crate::{Kind, Stmt};
 use am_base::Bytes;
+use rank_range::Width;
 use sqlite_items::Items;
 
 /// The typed program: all its units together. Functions and objects are numbered over all units, and an external name
@@ -89,7 +90,7 @@ pub struct StaticObject {
     pub at: TokenAt,
     pub object: u32,
     pub size: u64,
-    pub align: u64,
+    pub align: Width,
     pub initial: Initial,
 }
 

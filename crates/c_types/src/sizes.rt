@@ -1,6 +1,7 @@
 ghost use Rattle.std.specs.Prelude.{◌≡◌};
+ghost use Rattle.rank_range.specs.Numbers.{bytes_in};
 ghost use Rattle.c_types.specs.Kinds.{width_of};
-ghost use Rattle.c_types.specs.Sizes.{layout_of, is_complete_base, is_complete_in, base_size, size_of, base_align, align_of, IsComplete, IsSmall};
+ghost use Rattle.c_types.specs.Sizes.{layout_of, is_complete_base, is_complete_in, base_size, size_of, base_align, alignment_of, IsComplete, IsSmall};
 ghost use Rattle.std.specs.Option.{option_copied};
 
 use crate::{Base, CType, Kind, Part, StructLayout, StructType};
@@ -24,16 +25,24 @@ pub fn size(of: &CType, structs: &[StructType]) -> u64
     size
 }
 
-/// What divides each address of an object of the type.
-#[tactic(auto, unfolding(crate::specs::Sizes::align_of))]
+/// What divides the address of each object of the type.
 pub fn align(of: &CType, structs: &[StructType]) -> u64
-    requires complete { IsComplete structs.now of.now }
-    ensures { result ≡ align_of structs.now of.now }
+    requires { IsComplete structs.now of.now }
+    ensures { result ≡ bytes_in (alignment_of structs.now of.now) }
+{
+    alignment(of, structs).bytes() as u64
+}
+
+/// The alignment of the type: 1, 2, 4 or 8 bytes.
+#[tactic(auto, unfolding(crate::specs::Sizes::alignment_of))]
+pub fn alignment(of: &CType, structs: &[StructType]) -> Width
+    requires { IsComplete structs.now of.now }
+    ensures { result ≡ alignment_of structs.now of.now }
 {
     let mut align = base_align(of.base, structs);
     for part in of.parts.as_slice() {
         align = match part {
-            Part::Pointer { .. } => 8,
+            Part::Pointer { .. } => Width::Eight,
             Part::Array(_) | Part::OpenArray => align,
         };
     }
@@ -78,15 +87,15 @@ fn base_size(base: Base, structs: &[StructType]) -> u64
     }
 }
 
-fn base_align(base: Base, structs: &[StructType]) -> u64
+fn base_align(base: Base, structs: &[StructType]) -> Width
     ensures { result ≡ base_align structs.now base }
 {
     match base {
-        Base::Void => 1,
-        Base::Whole(kind) => width(kind).bytes() as u64,
+        Base::Void => Width::One,
+        Base::Whole(kind) => width(kind),
         Base::Struct(number) => match layout(structs, number) {
             Some(layout) => layout.align,
-            None => 1,
+            None => Width::One,
         },
     }
 }
