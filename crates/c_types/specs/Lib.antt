@@ -2,4 +2,6 @@ pub mod Kinds
 pub mod Sizes
 pub mod Rooms
 pub mod Layouts
+pub mod Places
 pub mod Need
+pub mod Segment

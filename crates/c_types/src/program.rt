@@ -13,8 +13,6 @@ pub struct Program {
     pub defined: Items<DefinedFunction>,
     /// The definitions of static objects and the strings, unit by unit in token order. This is their order in the segment.
     pub objects: Items<StaticObject>,
-    /// How many numbers objects have.
-    pub object_count: u32,
     /// The uses of names of functions and of objects, unit by unit in token order.
     pub uses: Items<Use>,
     /// `main`, where a unit defines it.
