@@ -1,3 +1,5 @@
 pub mod NumberLemmas
 pub mod AreaLemmas
 pub mod HeapLemmas
+pub mod KindLemmas
+pub mod OperatorLemmas

@@ -2,3 +2,5 @@ pub mod Layout
 pub mod Numbers
 pub mod Heap
 pub mod Nodes
+pub mod Kinds
+pub mod Operators
