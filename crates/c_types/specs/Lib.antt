@@ -1,4 +1,3 @@
-pub mod Kinds
 pub mod Sizes
 pub mod Rooms
 pub mod Layouts

@@ -4,7 +4,7 @@ use Rattle.std.specs.Prelude.{ℕ, ◌*◌, ◌≤◌, Bool, true, false, IsTrue
 use Rattle.rank_range.specs.Numbers.{bytes_in}
 use Rattle.rank_range.specs.declared.width.Width.{Width}
 use Rattle.rank_range.specs.declared.width.Width.TheVariants.{One, Eight}
-use Rattle.c_types.specs.Kinds.{width_of}
+use Rattle.rank_range.specs.Kinds.{width_of}
 use Rattle.c_types.specs.declared.ctype.CType.{CType}
 use Rattle.c_types.specs.declared.ctype.Base.{Base}
 use Rattle.c_types.specs.declared.ctype.Base.TheVariants.{Void, Whole, Struct}

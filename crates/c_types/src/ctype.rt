@@ -1,6 +1,5 @@
-use crate::Kind;
 use am_base::Bytes;
-use rank_range::Width;
+use rank_range::{Kind, Width};
 use sqlite_items::Items;
 
 /// The type of an object (C11, 6.2.5): what it is made from, and how, from the inside outwards. So the last part of the type

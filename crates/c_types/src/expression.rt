@@ -1,5 +1,5 @@
-use crate::{Binary, Kind, Unary};
 use am_base::{LibCall, MpiCall};
+use rank_range::{Binary, Kind, Unary};
 use sqlite_items::{Boxed, Items};
 
 /// An expression: its first operand, and what is then done with the value, one step behind the other. So `a + b * c` has the

@@ -3,7 +3,6 @@
 
 mod ctype;
 mod expression;
-mod later;
 mod names;
 mod program;
 mod rooms;
@@ -13,7 +12,6 @@ mod structs;
 
 pub use ctype::{Base, CType, FunctionType, Member, Part, StructLayout, StructType};
 pub use expression::{Counted, Direction, Expr, FullExpr, Given, OffsetBy, Operand, Step};
-pub use later::{Binary, Kind, Unary};
 pub use names::{Entry, Named, Names, Tag, Tagged};
 pub use program::{
     Body, DefinedFunction, Fix, Function, Initial, Main, Parameter, Program, StaticObject, TokenAt,

@@ -1,5 +1,6 @@
-use crate::{CType, FunctionType, Kind, StructType};
+use crate::{CType, FunctionType, StructType};
 use am_base::{Bytes, LibCall, MpiCall};
+use rank_range::Kind;
 use sqlite_items::Items;
 
 /// The names in scope (C11, 6.2.1), those that were declared last at the end.

@@ -1,6 +1,6 @@
-use crate::{Kind, Stmt};
+use crate::Stmt;
 use am_base::Bytes;
-use rank_range::Width;
+use rank_range::{Kind, Width};
 use sqlite_items::Items;
 
 /// The typed program: all its units together. Functions and objects are numbered over all units, and an external name

@@ -1,10 +1,9 @@
 ghost use Rattle.std.specs.Prelude.{◌≡◌};
 ghost use Rattle.rank_range.specs.Numbers.{bytes_in};
-ghost use Rattle.c_types.specs.Kinds.{width_of};
 ghost use Rattle.c_types.specs.Sizes.{layout_of, is_complete_base, is_complete_in, base_size, size_of, base_align, alignment_of, IsComplete, IsSmall};
 ghost use Rattle.std.specs.Option.{option_copied};
 
-use crate::{Base, CType, Kind, Part, StructLayout, StructType};
+use crate::{Base, CType, Part, StructLayout, StructType};
 use rank_range::Width;
 
 /// How many bytes an object of the type has.
@@ -79,7 +78,7 @@ fn base_size(base: Base, structs: &[StructType]) -> u64
 {
     match base {
         Base::Void => 0,
-        Base::Whole(kind) => width(kind).bytes() as u64,
+        Base::Whole(kind) => kind.width().bytes() as u64,
         Base::Struct(number) => match layout(structs, number) {
             Some(layout) => layout.size,
             None => 0,
@@ -92,7 +91,7 @@ fn base_align(base: Base, structs: &[StructType]) -> Width
 {
     match base {
         Base::Void => Width::One,
-        Base::Whole(kind) => width(kind),
+        Base::Whole(kind) => kind.width(),
         Base::Struct(number) => match layout(structs, number) {
             Some(layout) => layout.align,
             None => Width::One,
@@ -107,16 +106,5 @@ pub fn layout(structs: &[StructType], number: u32) -> Option<&StructLayout>
     match sqlite_items::at(structs, number as usize) {
         Some(found) => found.layout.as_ref(),
         None => None,
-    }
-}
-
-fn width(kind: Kind) -> Width
-    ensures { result ≡ width_of kind }
-{
-    match kind {
-        Kind::Char | Kind::UnsignedChar => Width::One,
-        Kind::Short | Kind::UnsignedShort => Width::Two,
-        Kind::Int | Kind::Unsigned => Width::Four,
-        Kind::Long | Kind::UnsignedLong => Width::Eight,
     }
 }

@@ -1,4 +1,5 @@
-use crate::{FullExpr, Kind};
+use crate::FullExpr;
+use rank_range::Kind;
 use sqlite_items::{Boxed, Items};
 
 /// A statement (C11, 6.8), or an automatic declarator with its initialiser. `line` is that of its first token, or of the

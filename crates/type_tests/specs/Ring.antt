@@ -11,8 +11,8 @@
 -- }
 use Rattle.std.specs.Prelude.{ℕ, ◌≡◌, List, [], ◌∷◌, ◌++◌, Option, Some, None, map, codes}
 use Rattle.std.specs.List.{flat_map}
-use Rattle.c_types.specs.declared.later.Kind.TheVariants as kind
-use Rattle.c_types.specs.declared.later.Binary.TheVariants as op
+use Rattle.rank_range.specs.declared.kinds.Kind.TheVariants as kind
+use Rattle.rank_range.specs.declared.operators.Binary.TheVariants as op
 use Rattle.am_base.specs.declared.calls.MpiCall.TheVariants as mpi
 use Rattle.am_base.specs.declared.calls.LibCall.TheVariants as lib
 use Rattle.rank_range.specs.declared.width.Width.TheVariants as width
