@@ -27,8 +27,8 @@ use Rattle.c_types.specs.declared.program.Body.{Body}
 use Rattle.c_types.specs.declared.program.Function.{Function}
 use Rattle.c_types.specs.declared.program.StaticObject.{StaticObject}
 use Rattle.c_types.specs.declared.program.Program.{Program}
-use Rattle.c_types.specs.Need.{Pending, pending_of}
 use Rattle.c_types.specs.Segment.{segment_bytes, segment_fixes, offset_of}
+use Rattle.type_tests.specs.Reading.{Called, Lib, Mpi, needs, calls_of, lines_of}
 use Rattle.type_tests.specs.Making.{expr, number, address, local, object, full}
 
 -- line 4: the frame has argc at 0, argv at 8, r at 16 and v at 20
@@ -39,24 +39,36 @@ v_is_1 = roll-Stmt (Stmt-F.Declare (record {
   stores = record { offset = 20; stored = stored.Number kind.Int; value = full 14 (number 1) } ∷ [];
 }))
 
+abbrev pub started : Expr
+started = expr (operand.Mpi mpi.Init (address 0 ∷ address 8 ∷ [])) []
+
 abbrev pub init : Stmt
-init = roll-Stmt (Stmt-F.Express 5 (full 16 (expr (operand.Mpi mpi.Init (address 0 ∷ address 8 ∷ [])) [])))
+init = roll-Stmt (Stmt-F.Express 5 (full 16 started))
 
 abbrev pub rank : Stmt
 rank = roll-Stmt (Stmt-F.Express 6 (full 25 (expr (operand.Mpi mpi.CommRank (number 1 ∷ address 16 ∷ [])) [])))
 
+abbrev pub sent : Expr
+sent = expr (operand.Mpi mpi.Send (address 20 ∷ number 1 ∷ number 7 ∷ number 1 ∷ number 0 ∷ number 1 ∷ [])) []
+
 abbrev pub send : Stmt
-send = roll-Stmt (Stmt-F.Express 7 (full 38
-    (expr (operand.Mpi mpi.Send (address 20 ∷ number 1 ∷ number 7 ∷ number 1 ∷ number 0 ∷ number 1 ∷ [])) [])))
+send = roll-Stmt (Stmt-F.Express 7 (full 38 sent))
+
+abbrev pub before_r : Expr
+before_r = expr (operand.Local 16) (step.Load kind.Int ∷ step.Binary op.Subtract kind.Int (number 1) ∷ [])
+
+abbrev pub received : Expr
+received =
+    expr (operand.Mpi mpi.Recv (address 20 ∷ number 1 ∷ number 7 ∷ before_r ∷ number 0 ∷ number 1 ∷ number 0 ∷ [])) []
 
 abbrev pub receive : Stmt
-receive = roll-Stmt (Stmt-F.Express 8 (full 56
-    (expr (operand.Mpi mpi.Recv (address 20 ∷ number 1 ∷ number 7
-    ∷ expr (operand.Local 16) (step.Load kind.Int ∷ step.Binary op.Subtract kind.Int (number 1) ∷ [])
-    ∷ number 0 ∷ number 1 ∷ number 0 ∷ [])) [])))
+receive = roll-Stmt (Stmt-F.Express 8 (full 56 received))
+
+abbrev pub printed : Expr
+printed = expr (operand.Library lib.Printf (object 0 ∷ local kind.Int 20 ∷ [])) []
 
 abbrev pub print : Stmt
-print = roll-Stmt (Stmt-F.Express 8 (full 76 (expr (operand.Library lib.Printf (object 0 ∷ local kind.Int 20 ∷ [])) [])))
+print = roll-Stmt (Stmt-F.Express 8 (full 76 printed))
 
 abbrev pub choice : Stmt
 choice = roll-Stmt (Stmt-F.If 7
@@ -99,11 +111,10 @@ ring = record {
   main = Some (record { function = 0; unit = 0; line = 3 });
 }
 
-abbrev pub needs : List Stmt → List ℕ
-needs ss = map (λ p. p.need) (flat_map pending_of ss)
-
 pub record RingReads : Type 0 where
   pub needs_are : needs stmts ≡ 2 ∷ 2 ∷ 2 ∷ 2 ∷ 6 ∷ 7 ∷ 2 ∷ 1 ∷ 1 ∷ []
+  pub lines_are : flat_map lines_of stmts ≡ 4 ∷ 5 ∷ 6 ∷ 7 ∷ 7 ∷ 8 ∷ 8 ∷ 9 ∷ 10 ∷ []
+  pub calls_are : flat_map calls_of (started ∷ sent ∷ received ∷ printed ∷ []) ≡ Mpi mpi.Init ∷ Mpi mpi.Send ∷ Mpi mpi.Recv ∷ Lib lib.Printf ∷ []
   pub bytes_are : segment_bytes ring.objects
       ≡ 16 ∷ 48 ∷ 3 ∷ 0 ∷ 0 ∷ 0 ∷ 0 ∷ 0 ∷ 0 ∷ 0 ∷ 0 ∷ 0 ∷ 0 ∷ 0 ∷ 0 ∷ 0 ∷ (codes "ampi" ++ 0 ∷ 0 ∷ 0 ∷ 0 ∷ 0 ∷ 0 ∷ 0 ∷ 0 ∷ 0 ∷ 0 ∷ 0 ∷ 0 ∷ (codes "got %d" ++ 10 ∷ 0 ∷ []))
   pub fixes_are : segment_fixes ring.objects ≡ 0 ∷ []
