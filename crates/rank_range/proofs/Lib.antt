@@ -3,3 +3,4 @@ pub mod AreaLemmas
 pub mod HeapLemmas
 pub mod KindLemmas
 pub mod OperatorLemmas
+pub mod LineLemmas

@@ -17,7 +17,7 @@ use Rattle.am_base.specs.declared.traps.TrapCause.{TrapCause}
 use Rattle.am_base.specs.declared.traps.TrapCause.TheVariants.{DivisionByZero, DivisionOverflow, ShiftCount}
 use Rattle.rank_range.specs.declared.kinds.Kind.{Kind}
 use Rattle.rank_range.specs.declared.kinds.Kind.TheVariants.{Char, UnsignedChar, Short, UnsignedShort, Int, Unsigned, Long, UnsignedLong}
-use Rattle.rank_range.specs.Kinds.{low_bits, reduced, word_of, value_of, extended, convert, is_signed, bits_of}
+use Rattle.rank_range.specs.Kinds.{low_bits, reduced, word_of, value_of, extended, convert, is_signed, bits_of, AreWords, AreExtended}
 use Rattle.rank_range.specs.Operators.{division_trap, divided, shifted, least, int_shl, gives, unless}
 use Rattle.rank_range.proofs.KindLemmas.{word_signed, word_unsigned, low_8, low_16, low_32, low_64}
 
@@ -489,3 +489,14 @@ pub divisor_above : (kind : Kind) (a b y : ℕ) → is_signed kind ≡ false
 divisor_above kind a b zero is none word =
     absurd (divisor_some kind (value_of kind a) (value_of kind b) none (unsigned_value kind b is ∙ ap pos (sym word)))
 divisor_above kind a b (suc y) is none word = omega arith
+
+-- ---- laws
+
+pub are_words : AreWords
+unfolding extended
+are_words kind word = ap word_of (value_back kind word)
+
+pub are_extended : AreExtended
+unfolding extended convert
+are_extended from to word is =
+    sym (ap word_of (reduced_word to (value_of from word))) ∙ ap (λ (n : ℕ). word_of (reduced to (pos n))) is

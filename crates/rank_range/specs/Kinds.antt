@@ -73,6 +73,14 @@ convert word from to = word_of (reduced to (value_of from word))
 abbrev pub IsWordOf : Kind → ℕ → Type 0
 IsWordOf kind word = extended kind word ≡ word
 
+-- A word that was extended is that of a number of the kind.
+abbrev pub AreWords : Type 0
+AreWords = (kind : Kind) (word : ℕ) → IsWordOf kind (extended kind word)
+
+-- A value that is kept as its word is converted by extending that word.
+abbrev pub AreExtended : Type 0
+AreExtended = (from to : Kind) (word : ℕ) → IsWordOf from word → convert word from to ≡ extended to word
+
 -- the rank of the kind among the whole types, as an order
 abbrev pub order_of : Kind → ℕ
 order_of Char = 1

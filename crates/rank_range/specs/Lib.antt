@@ -4,3 +4,4 @@ pub mod Heap
 pub mod Nodes
 pub mod Kinds
 pub mod Operators
+pub mod Output

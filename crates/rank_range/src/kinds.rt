@@ -2,7 +2,7 @@
 
 ghost use Rattle.std.specs.Prelude.{◌≡◌};
 ghost use Rattle.rank_range.specs.Kinds as kinds;
-ghost use Rattle.rank_range.specs.Kinds.{is_signed, width_of, bits_of, order_of};
+ghost use Rattle.rank_range.specs.Kinds.{is_signed, width_of, bits_of, AreWords, AreExtended};
 
 use crate::Width;
 
@@ -96,3 +96,9 @@ pub fn convert(word: u64, from: Kind, to: Kind) -> u64
 {
     extended(to, extended(from, word))
 }
+
+/// Laws: a word that was extended is that of a number of the kind, and so a value is converted by extending its word.
+pub fn words_are_extended()
+    ensures words { AreWords }
+    ensures converted { AreExtended }
+{}
