@@ -1,2 +1,3 @@
 mod SizeLemmas
 mod RoomLemmas
+mod RefusalLaws

@@ -1,9 +1,10 @@
 -- The segment of a program: the bytes with which the globals of each rank begin, and what refuses it. Its layout and its
 -- limit are this profile's own.
-use Rattle.std.specs.Prelude.{ℕ, ◌≡◌, ◌+◌, ◌-◌, ◌<◌, ◌≤◌, ◌==◌, ◌⊎◌, if◌then◌else◌, Bool, true, false, nat_le, List, [], ◌∷◌, ◌++◌, length, take, map, replicate, Option, Some, None}
-use Rattle.std.specs.List.{flat_map, filter, fold, list_any, Contains}
+use Rattle.std.specs.Prelude.{ℕ, ◌≡◌, ◌+◌, ◌-◌, ◌<◌, ◌≤◌, ◌==◌, ◌⊎◌, if◌then◌else◌, Bool, true, false, nat_le, max, List, [], ◌∷◌, ◌++◌, length, take, map, replicate, Option, Some, None}
+use Rattle.std.specs.List.{filter, fold, list_any, range_with_len, Contains}
 use Rattle.rank_range.specs.Layout.{globals_start, heap_start}
 use Rattle.rank_range.specs.Numbers.{with_number}
+use Rattle.rank_range.specs.declared.run.Segment.{Segment}
 use Rattle.rank_range.specs.declared.width.Width.TheVariants.{One}
 use Rattle.c_types.specs.declared.program.Program.{Program}
 use Rattle.c_types.specs.declared.program.StaticObject.{StaticObject}
@@ -93,6 +94,15 @@ fixes_behind rooms (o ∷ os) =
 unfoldable pub segment_fixes : List StaticObject → List ℕ
 segment_fixes objects = 0 ∷ fixes_behind before_objects objects
 
+-- one more than the greatest number of an object that a unit defines
+abbrev pub object_count : List StaticObject → ℕ
+object_count [] = 0
+object_count (o ∷ os) = max (o.object + 1) (object_count os)
+
+-- the offsets of the objects by their numbers
+unfoldable pub object_offsets : List StaticObject → List ℕ
+object_offsets objects = map (offset_of objects) (range_with_len 0 (object_count objects))
+
 -- A program is refused where its segment is too large, where a name is used that no unit defines, and where a name is defined
 -- twice.
 pub data Refusal : Type 0 where
@@ -169,3 +179,16 @@ pub record IsRefused (program : Program) (why : Refusal) (at : TokenAt) : Type 0
 
 abbrev pub IsAccepted : Program → Type 0
 IsAccepted program = (why : Refusal) (at : TokenAt) → Refuses program why at → ⊥
+
+-- The program isn't refused, and this is its segment.
+pub record SegmentOf (program : Program) (segment : Segment) : Type 0 where
+  pub accepted : IsAccepted program
+  pub bytes_are : segment.bytes ≡ segment_bytes program.objects
+  pub fixes_are : segment.fixes ≡ segment_fixes program.objects
+  pub objects_are : segment.objects ≡ object_offsets program.objects
+
+-- A refused program has one first refusal, and no segment.
+pub record RefusalIsOne (program : Program) : Type 0 where
+  pub one : (why other : Refusal) (at there : TokenAt) → IsRefused program why at → IsRefused program other there
+      → (why ≡ other) × (at ≡ there)
+  pub no_segment : (why : Refusal) (at : TokenAt) (segment : Segment) → IsRefused program why at → SegmentOf program segment → ⊥

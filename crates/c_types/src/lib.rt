@@ -3,6 +3,7 @@
 
 mod ctype;
 mod expression;
+mod laws;
 mod names;
 mod program;
 mod rooms;
@@ -12,6 +13,7 @@ mod structs;
 
 pub use ctype::{Base, CType, FunctionType, Member, Part, StructLayout, StructType};
 pub use expression::{Counted, Direction, Expr, FullExpr, Given, OffsetBy, Operand, Step};
+pub use laws::refusal_is_one;
 pub use names::{Entry, Named, Names, Tag, Tagged};
 pub use program::{
     Body, DefinedFunction, Fix, Function, Initial, Main, Parameter, Program, StaticObject, TokenAt,
