@@ -1,3 +1,4 @@
 mod SizeLemmas
 mod RoomLemmas
 mod RefusalLaws
+mod TableLaws

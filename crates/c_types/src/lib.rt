@@ -10,6 +10,7 @@ mod rooms;
 mod sizes;
 mod statement;
 mod structs;
+mod table;
 
 pub use ctype::{Base, CType, FunctionType, Member, Part, StructLayout, StructType};
 pub use expression::{Counted, Direction, Expr, FullExpr, Given, OffsetBy, Operand, Step};
@@ -23,3 +24,4 @@ pub use rooms::{Rooms, next_is_least};
 pub use sizes::{align, alignment, is_complete, layout, size};
 pub use statement::{Case, Declared, Span, Stmt, Store, Stored};
 pub use structs::StructDraft;
+pub use table::NameTable;
