@@ -2,3 +2,4 @@ mod SizeLemmas
 mod RoomLemmas
 mod RefusalLaws
 mod TableLaws
+mod PopLaws

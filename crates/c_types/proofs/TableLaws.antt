@@ -11,7 +11,7 @@ use Rattle.indexmap.specs.IndexMap.{insert_entry}
 use Rattle.c_types.specs.declared.table.DeclaredName.{DeclaredName}
 use Rattle.c_types.specs.Names.{innermost, last_from}
 use Rattle.c_types.specs.Tables.{Entries, meaning_of, names_of, Agrees, Hide, IsTable, Restores}
-use Rattle.std.proofs.lemmas.List.{append-nil, map-append, length-map, length-take}
+use Rattle.std.proofs.lemmas.List.{append-nil, map-append, length-map}
 use Rattle.std.proofs.Math.Seq.{append_snoc, take-append_seam}
 
 same_way : (a b : List ℕ) → bytes_eq a b ≡ bytes_eq b a
@@ -212,12 +212,3 @@ declared_there key name before es same agrees none =
   where
     not_some : (n : ℕ) → None ≡ Some n → ⊥
     not_some n e = cc
-
-pub taken_less : (n : ℕ) (now whole : List (List ℕ)) → now ≡ take n whole → take (length now - 1) now ≡ take (length now - 1) whole
-taken_less n now whole is = ap (take (length now - 1)) is ∙ shorter (length now - 1) n whole (omega (arith, ap length is, length-take n whole))
-  where
-    shorter : (m n : ℕ) (xs : List (List ℕ)) → m ≤ n → take m (take n xs) ≡ take m xs
-    shorter zero n xs le = refl
-    shorter (suc m) zero xs le = absurd (omega (arith, le))
-    shorter (suc m) (suc n) [] le = refl
-    shorter (suc m) (suc n) (x ∷ xs) le = ap (λ ys. x ∷ ys) (shorter m n xs (omega (arith, le)))

@@ -7,6 +7,7 @@ mod laws;
 mod names;
 mod program;
 mod rooms;
+mod scope;
 mod sizes;
 mod statement;
 mod structs;
@@ -15,12 +16,13 @@ mod table;
 pub use ctype::{Base, CType, FunctionType, Member, Part, StructLayout, StructType};
 pub use expression::{Counted, Direction, Expr, FullExpr, Given, OffsetBy, Operand, Step};
 pub use laws::refusal_is_one;
-pub use names::{Entry, Named, Names, Tag, Tagged};
+pub use names::{Named, Names, Tagged};
 pub use program::{
     Body, DefinedFunction, Fix, Function, Initial, Main, Parameter, Program, StaticObject, TokenAt,
     Use, Used,
 };
 pub use rooms::{Rooms, next_is_least};
+pub use scope::Scope;
 pub use sizes::{align, alignment, is_complete, layout, size};
 pub use statement::{Case, Declared, Span, Stmt, Store, Stored};
 pub use structs::StructDraft;

@@ -1,22 +1,16 @@
-use crate::{CType, FunctionType, StructType};
-use am_base::{Bytes, LibCall, MpiCall};
+use crate::{CType, FunctionType, Scope, StructType};
+use am_base::{LibCall, MpiCall};
 use rank_range::Kind;
 use sqlite_items::Items;
 
-/// The names in scope (C11, 6.2.1), those that were declared last at the end.
+/// The names in scope (C11, 6.2.1), with their types, constant values and objects; tags are a name space of their own
+/// (C11, 6.2.3). Structures outlive the scopes of their tags.
 #[derive(Debug, Drop)]
 pub struct Names {
-    pub ordinary: Items<Entry>,
-    pub tags: Items<Tag>,
-    /// All structures, by number.
+    pub ordinary: Scope<Named>,
+    pub tags: Scope<Tagged>,
+    /// By number.
     pub structs: Items<StructType>,
-}
-
-/// An ordinary name, and what it names.
-#[derive(Debug, Drop)]
-pub struct Entry {
-    pub name: Bytes,
-    pub named: Named,
 }
 
 /// What an ordinary name names.
@@ -38,13 +32,6 @@ pub enum Named {
     Function { number: u32, of: FunctionType },
     Library { call: LibCall, of: FunctionType },
     Mpi { call: MpiCall, of: FunctionType },
-}
-
-/// A tag, and what it names.
-#[derive(Debug, Drop)]
-pub struct Tag {
-    pub name: Bytes,
-    pub tagged: Tagged,
 }
 
 /// What a tag names: a structure, by its number, or an enumeration.
