@@ -1,9 +1,9 @@
 -- The first refusal of a program is one.
-use Rattle.std.proofs.Common.{ℕ, ◌≡◌, ◌≤◌, ◌⊎◌, inl, inr, refl, ap, arith}
+use Rattle.std.proofs.Common.{◌≡◌, ◌≤◌, ◌⊎◌, inl, inr, refl, ap, arith}
 use Rattle.c_types.specs.declared.program.Program.{Program}
 use Rattle.c_types.specs.declared.program.TokenAt.{TokenAt}
 use Rattle.c_types.specs.Places.{IsBefore}
-use Rattle.c_types.specs.Segment.{Refusal, TooLarge, Undefined, Twice, order_of, IsRefused, RefusalIsOne}
+use Rattle.c_types.specs.Segment.{Refusal, TooLarge, Undefined, Twice, order_of, RefusalIsOne}
 
 same_order : (why other : Refusal) → order_of why ≤ order_of other → order_of other ≤ order_of why → why ≡ other
 same_order TooLarge TooLarge le ge = refl

@@ -1,7 +1,6 @@
 -- The layout of a structure, member by member (C11, 6.7.2.1).
-use Rattle.std.specs.Prelude.{ℕ, ◌≡◌, List, [], ◌∷◌, ◌++◌}
+use Rattle.std.specs.Prelude.{ℕ, List, [], ◌∷◌, ◌++◌}
 use Rattle.c_types.specs.declared.ctype.CType.{CType}
-use Rattle.c_types.specs.declared.ctype.Member.{Member}
 use Rattle.c_types.specs.declared.ctype.StructLayout.{StructLayout}
 use Rattle.c_types.specs.declared.structs.StructDraft.{StructDraft}
 use Rattle.c_types.specs.Sizes.{Structs, size_of, alignment_of}

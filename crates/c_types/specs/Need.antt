@@ -1,6 +1,6 @@
 -- How many values are pending at once in an expression, its need, and the first full expression that needs too many. It is
 -- this profile's own.
-use Rattle.std.specs.Prelude.{ℕ, ◌≡◌, ◌+◌, ◌<◌, ◌≤◌, max, List, [], ◌∷◌, ◌++◌, Option, Some, None}
+use Rattle.std.specs.Prelude.{ℕ, ◌≡◌, ◌+◌, ◌<◌, max, List, [], ◌∷◌, ◌++◌, Option, Some, None}
 use Rattle.std.specs.List.{flat_map, Contains}
 use Rattle.c_types.specs.declared.expression.Expr.{Expr, fold-Expr}
 use Rattle.c_types.specs.declared.expression.Expr.TheOpen.{Expr-F}

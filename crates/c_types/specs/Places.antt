@@ -1,5 +1,5 @@
 -- The order of the tokens of all units.
-use Rattle.std.specs.Prelude.{ℕ, ◌≡◌, ◌<◌, ◌≤◌, ◌⊎◌}
+use Rattle.std.specs.Prelude.{◌≡◌, ◌<◌, ◌≤◌, ◌⊎◌}
 use Rattle.c_types.specs.declared.program.TokenAt.{TokenAt}
 
 -- The token stands in an earlier unit, or before the other one in the same unit.

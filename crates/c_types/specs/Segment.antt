@@ -1,6 +1,6 @@
 -- The segment of a program: the bytes with which the globals of each rank begin, and what refuses it. Its layout and its
 -- limit are this profile's own.
-use Rattle.std.specs.Prelude.{ℕ, ◌≡◌, ◌+◌, ◌-◌, ◌<◌, ◌≤◌, ◌==◌, ◌⊎◌, if◌then◌else◌, Bool, true, false, nat_le, max, List, [], ◌∷◌, ◌++◌, length, take, map, replicate, Option, Some, None}
+use Rattle.std.specs.Prelude.{ℕ, ◌≡◌, ◌+◌, ◌-◌, ◌<◌, ◌≤◌, ◌==◌, ◌⊎◌, if◌then◌else◌, Bool, true, false, nat_le, max, List, [], ◌∷◌, ◌++◌, take, map, replicate, None}
 use Rattle.std.specs.List.{filter, fold, list_any, range_with_len, Contains}
 use Rattle.rank_range.specs.Layout.{globals_start, heap_start}
 use Rattle.rank_range.specs.Numbers.{with_number}
@@ -10,7 +10,6 @@ use Rattle.c_types.specs.declared.program.Program.{Program}
 use Rattle.c_types.specs.declared.program.StaticObject.{StaticObject}
 use Rattle.c_types.specs.declared.program.DefinedFunction.{DefinedFunction}
 use Rattle.c_types.specs.declared.program.Fix.{Fix}
-use Rattle.c_types.specs.declared.program.Main.{Main}
 use Rattle.c_types.specs.declared.program.Use.{Use}
 use Rattle.c_types.specs.declared.program.Used.{Used}
 use Rattle.c_types.specs.declared.program.Used.TheVariants as used

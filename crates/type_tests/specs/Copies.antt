@@ -9,7 +9,7 @@
 --   w->x += 3;
 --   return a[1].x + (int)w->y;
 -- }
-use Rattle.std.specs.Prelude.{ℕ, ◌≡◌, List, [], ◌∷◌, ◌++◌, Option, Some, None, codes, replicate}
+use Rattle.std.specs.Prelude.{ℕ, ◌≡◌, List, [], ◌∷◌, ◌++◌, Some, None, codes, replicate}
 use Rattle.std.specs.List.{flat_map}
 use Rattle.rank_range.specs.declared.kinds.Kind.TheVariants as kind
 use Rattle.rank_range.specs.declared.operators.Binary.TheVariants as op
@@ -24,7 +24,7 @@ use Rattle.c_types.specs.declared.statement.Stmt.TheViews.{roll-Stmt}
 use Rattle.c_types.specs.declared.statement.Stored.TheVariants as stored
 use Rattle.c_types.specs.declared.program.StaticObject.{StaticObject}
 use Rattle.c_types.specs.Segment.{segment_bytes, segment_fixes, offset_of}
-use Rattle.type_tests.specs.Making.{expr, number, address, local, object, full}
+use Rattle.type_tests.specs.Making.{expr, number, address, local, full}
 use Rattle.type_tests.specs.Reading.{needs, lines_of}
 
 -- A P has its tag at 0, x at 4 and y at 8. The frame has p at 0, a at 16, q at 48 and w at 64.

@@ -1,5 +1,5 @@
 -- Short words for the parts of a program that is written by hand.
-use Rattle.std.specs.Prelude.{ℕ, List, [], ◌∷◌, ◌++◌, Option, Some, None}
+use Rattle.std.specs.Prelude.{ℕ, List, [], ◌∷◌}
 use Rattle.rank_range.specs.declared.kinds.Kind.{Kind}
 use Rattle.c_types.specs.declared.expression.Expr.{Expr}
 use Rattle.c_types.specs.declared.expression.Expr.TheViews.{roll-Expr}

@@ -9,7 +9,6 @@ use Rattle.c_types.specs.declared.expression.Operand.{Operand}
 use Rattle.c_types.specs.declared.expression.Operand.TheVariants as operand
 use Rattle.c_types.specs.declared.expression.Step.{Step}
 use Rattle.c_types.specs.declared.expression.Step.TheVariants as step
-use Rattle.c_types.specs.declared.expression.FullExpr.{FullExpr}
 use Rattle.c_types.specs.declared.statement.Stmt.{Stmt, fold-Stmt}
 use Rattle.c_types.specs.declared.statement.Stmt.TheOpen.{Stmt-F}
 use Rattle.c_types.specs.declared.statement.Declared.{Declared}

@@ -9,7 +9,7 @@
 --   MPI_Finalize();
 --   return 0;
 -- }
-use Rattle.std.specs.Prelude.{ℕ, ◌≡◌, List, [], ◌∷◌, ◌++◌, Option, Some, None, map, codes}
+use Rattle.std.specs.Prelude.{◌≡◌, List, [], ◌∷◌, ◌++◌, Some, None, codes}
 use Rattle.std.specs.List.{flat_map}
 use Rattle.rank_range.specs.declared.kinds.Kind.TheVariants as kind
 use Rattle.rank_range.specs.declared.operators.Binary.TheVariants as op
@@ -24,11 +24,10 @@ use Rattle.c_types.specs.declared.statement.Stmt.TheOpen.{Stmt-F}
 use Rattle.c_types.specs.declared.statement.Stmt.TheViews.{roll-Stmt}
 use Rattle.c_types.specs.declared.statement.Stored.TheVariants as stored
 use Rattle.c_types.specs.declared.program.Body.{Body}
-use Rattle.c_types.specs.declared.program.Function.{Function}
 use Rattle.c_types.specs.declared.program.StaticObject.{StaticObject}
 use Rattle.c_types.specs.declared.program.Program.{Program}
 use Rattle.c_types.specs.Segment.{segment_bytes, segment_fixes, offset_of}
-use Rattle.type_tests.specs.Reading.{Called, Lib, Mpi, needs, calls_of, lines_of}
+use Rattle.type_tests.specs.Reading.{Lib, Mpi, needs, calls_of, lines_of}
 use Rattle.type_tests.specs.Making.{expr, number, address, local, object, full}
 
 -- line 4: the frame has argc at 0, argv at 8, r at 16 and v at 20

@@ -9,7 +9,7 @@
 --     }
 --   return n / (i - 6);
 -- }
-use Rattle.std.specs.Prelude.{ℕ, ◌≡◌, List, [], ◌∷◌, Option, Some, None}
+use Rattle.std.specs.Prelude.{ℕ, ◌≡◌, List, [], ◌∷◌, Some, None}
 use Rattle.std.specs.List.{flat_map}
 use Rattle.rank_range.specs.declared.kinds.Kind.TheVariants as kind
 use Rattle.rank_range.specs.declared.operators.Binary.TheVariants as op
@@ -24,7 +24,7 @@ use Rattle.c_types.specs.declared.statement.Stmt.{Stmt}
 use Rattle.c_types.specs.declared.statement.Stmt.TheOpen.{Stmt-F}
 use Rattle.c_types.specs.declared.statement.Stmt.TheViews.{roll-Stmt}
 use Rattle.c_types.specs.declared.statement.Stored.TheVariants as stored
-use Rattle.type_tests.specs.Making.{expr, number, local, full}
+use Rattle.type_tests.specs.Making.{expr, number, full}
 use Rattle.type_tests.specs.Reading.{needs, lines_of}
 
 -- the frame has i at 0 and n at 4

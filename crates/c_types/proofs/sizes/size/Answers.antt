@@ -1,4 +1,4 @@
-use Rattle.std.proofs.Common.{◌≡◌, ◌*◌, ◌<◌, Fits, w64, arith}
+use Rattle.std.proofs.Common.{arith}
 use Rattle.c_types.proofs.SizeLemmas.{small_array}
 use Rattle.c_types.proofs.sizes.size.Goals as goal
 

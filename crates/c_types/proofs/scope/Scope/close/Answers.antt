@@ -1,4 +1,4 @@
-use Rattle.std.proofs.Common.{◌<◌, arith}
+use Rattle.std.proofs.Common.{arith}
 use Rattle.c_types.proofs.PopLaws.{popped}
 use Rattle.c_types.proofs.scope.Scope.close.Goals as goal
 

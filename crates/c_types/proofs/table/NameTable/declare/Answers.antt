@@ -1,8 +1,8 @@
-use Rattle.std.proofs.Common.{ℕ, List, ◌∷◌, [], Some, length, sym, ap, ◌∙◌}
+use Rattle.std.proofs.Common.{ℕ, List, Some, length, ap, ◌∙◌}
 use Rattle.std.specs.Prelude.{if◌then◌else◌}
 use Rattle.std.specs.Str.{bytes_eq}
 use Rattle.c_types.specs.declared.table.DeclaredName.{DeclaredName}
-use Rattle.c_types.specs.Tables.{Entries, meaning_of, names_of}
+use Rattle.c_types.specs.Tables.{Entries, meaning_of}
 use Rattle.c_types.proofs.TableLaws.{table_more, inserted}
 use Rattle.c_types.proofs.table.NameTable.declare.Goals as goal
 
