@@ -1,11 +1,11 @@
-# What the scripts that time a program share; they read this file with `.`.
+# What the scripts that time programs share; they read this file with `.`.
 
-# the built program of a crate of bench's own, or a message
+# the built program of a crate, or a message
 program_of() {
   local top program
   top=$(cd "$(dirname "${BASH_SOURCE[0]}")/.." && pwd)
   program=$top/crates/$1/out/$1
-  [ -x "$program" ] || { echo "bench: no program at $program: build it first" >&2; return 1; }
+  [ -x "$program" ] || { echo "bench: no program at $program: build it first, by rt run in its crate's folder" >&2; return 1; }
   echo "$program"
 }
 
@@ -13,7 +13,18 @@ program_of() {
 time_of() {
   local start end
   start=$(date +%s%N)
-  "$@" >/dev/null || return 1
+  "$@" >/dev/null || { echo "bench: the run failed: $*" >&2; return 1; }
   end=$(date +%s%N)
   echo $((end - start))
+}
+
+# The nanoseconds that the turns of a figure of crates/bench take: its name, its size, its turns and maybe its kind. The time of a run
+# without a turn is taken off.
+taken_by() {
+  local program name=$1 size=$2 turns=$3 none all
+  shift 3
+  program=$(program_of bench) || return 1
+  none=$(time_of "$program" "$name" "$size" 0 "$@") || return 1
+  all=$(time_of "$program" "$name" "$size" "$turns" "$@") || return 1
+  echo $((all - none))
 }

@@ -1,3 +1,5 @@
+//! The plain book.
+
 ghost use Rattle.std.specs.Prelude.{◌≡◌, []};
 
 use crate::copies::{copied_messages, copied_pairs, copied_receives};

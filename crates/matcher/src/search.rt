@@ -1,3 +1,5 @@
+//! Finding what a receive or a message meets first.
+
 ghost use Rattle.std.specs.Prelude.{◌≡◌, ◌≢◌, ◌↔◌, IsTrue, MatchOption, All, Any, AllPairs, ◌<◌, ◌≤◌, length, vec_len, vec_capacity};
 ghost use Rattle.std.specs.List.{insert};
 ghost use Rattle.mpi_types.specs.Accepts.{Accepts, IsAcceptedBy};

@@ -1,3 +1,5 @@
+//! What a book is, in which messages and receives meet.
+
 ghost use Rattle.std.specs.Prelude.{◌≡◌, ◌↔◌, min, IsTrue, MatchOption, IfOk, OnErr};
 ghost use Rattle.mpi_types.specs.Accepts.{Accepts};
 ghost use Rattle.mpi_types.specs.First.{NoneOf, IsFirstOf};

@@ -1,3 +1,5 @@
+//! The calls of MPI and their answers.
+
 use crate::Sequence;
 use am_base::{Bytes, MpiCall, TrapCause};
 

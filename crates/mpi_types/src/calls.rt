@@ -1,3 +1,5 @@
+//! The calls of a book as values, and the law that books agree.
+
 ghost use Rattle.std.specs.Prelude.{◌≡◌, ◌↔◌, List, IsTrue, IfOk, OnErr};
 ghost use Rattle.mpi_types.specs.declared.calls.BookCall.{BookCall};
 ghost use Rattle.mpi_types.specs.declared.calls.BookAnswer.{BookAnswer};

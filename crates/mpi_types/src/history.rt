@@ -1,3 +1,5 @@
+//! Histories.
+
 ghost use Rattle.std.specs.Prelude.{◌≡◌, ◌↔◌, ◌+◌, ◌<◌, ◌^◌, [], ◌∷◌, ◌++◌, replicate, take, length, slice_get, IsTrue, IfOk, IfSome, IfNone, OnOk, OnErr};
 ghost use Rattle.mpi_types.specs.Runs.{MayRepeat, run_behind, are_one_run, runs_of, entries_of};
 

@@ -1,3 +1,5 @@
+//! Datatypes and operations.
+
 ghost use Rattle.std.specs.Prelude.{◌≡◌, ◌≢◌, pos, MatchOption};
 ghost use Rattle.mpi_types.specs.declared.kinds.Datatype.{Datatype};
 ghost use Rattle.mpi_types.specs.declared.kinds.Operation.{Operation};

@@ -5,7 +5,7 @@ use crate::ParseError;
 use crate::cursor::Cursor;
 use crate::expressions::full;
 use crate::scope::{Scope, declare};
-use c_model::Stmt;
+use thin_model::Stmt;
 use sqlite_items::Items;
 use std::alloc::Global;
 use thin_tokens::Mark;

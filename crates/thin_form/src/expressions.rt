@@ -6,7 +6,7 @@ use crate::ParseError;
 use crate::cursor::Cursor;
 use crate::operators::{join, prefix_of};
 use crate::scope::{Scope, local_named};
-use c_model::{Expr, FullExpr};
+use thin_model::{Expr, FullExpr};
 use sqlite_items::Boxed;
 use std::alloc::Global;
 use thin_tokens::{Kind, Mark};

@@ -2,7 +2,7 @@
 #![tactic(auto)]
 
 ghost use Rattle.std.specs.Prelude.{◌≡◌, List, IfOk, IsErrOf};
-ghost use Rattle.c_model.specs.declared.tree.Program.{Program};
+ghost use Rattle.thin_model.specs.declared.tree.Program.{Program};
 ghost use Rattle.thin_tokens.specs.declared.token.Token.{Token};
 ghost use Rattle.thin_form.specs.Grammar.{Parses};
 
@@ -15,7 +15,7 @@ mod program;
 mod scope;
 mod statements;
 
-use c_model::Program;
+use thin_model::Program;
 pub use error::ParseError;
 use std::alloc::Global;
 use thin_tokens::Token;

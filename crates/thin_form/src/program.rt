@@ -5,7 +5,7 @@ use crate::ParseError;
 use crate::cursor::{Cursor, same_name};
 use crate::scope::Scope;
 use crate::statements::block;
-use c_model::Program;
+use thin_model::Program;
 use sqlite_items::Items;
 use std::alloc::Global;
 use thin_tokens::{Keyword, Mark, Token};

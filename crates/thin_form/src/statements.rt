@@ -7,7 +7,7 @@ use crate::declarations::declarators;
 use crate::expressions::{ended, test};
 use crate::scope::{Scope, keep_first};
 use am_base::Bytes;
-use c_model::Stmt;
+use thin_model::Stmt;
 use sqlite_items::{Boxed, Items};
 use std::alloc::Global;
 use thin_tokens::{Keyword, Mark};

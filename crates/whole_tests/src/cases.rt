@@ -1,7 +1,9 @@
 //! A data file as groups of cases. Blank lines separate groups; a line that begins with `# ` is a comment.
 
 use crate::word::Word;
-use crate::{books, commands, fields, heaps, lexing, memory, outside, parsing, plans, schedules};
+use crate::{
+    books, commands, fields, heaps, lexing, memory, names, outside, parsing, plans, schedules,
+};
 use std::alloc::{AllocError, Global};
 
 /// The file's text, behind the word's name, with an answer under each case.
@@ -57,6 +59,7 @@ pub fn begins(out: &mut String, line: &str) -> Result<bool, AllocError> {
 fn answer(alloc: Global, out: &mut String, word: Word, line: &str) -> Result<(), AllocError> {
     match word {
         Word::Fields => fields::answer(alloc, out, line),
+        Word::Names => names::answer(alloc, out, line),
         Word::Words => commands::answer(alloc, out, line),
         Word::Lex => lexing::answer(alloc, out, line),
         Word::Parse => parsing::answer(alloc, out, line),

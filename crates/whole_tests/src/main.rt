@@ -10,6 +10,7 @@ mod heaps;
 mod lexing;
 mod lines;
 mod memory;
+mod names;
 mod outside;
 mod parsing;
 mod plans;

@@ -10,6 +10,7 @@ use schedule::{printed_is_read, turns_suffice};
 #[derive(Clone, Copy)]
 pub enum Word {
     Fields,
+    Names,
     Files,
     Words,
     Lex,
@@ -22,8 +23,9 @@ pub enum Word {
 }
 
 /// The layers in the order in which `all` plays them.
-pub const ALL: [Word; 10] = [
+pub const ALL: [Word; 11] = [
     Word::Fields,
+    Word::Names,
     Word::Files,
     Word::Words,
     Word::Lex,
@@ -48,6 +50,7 @@ impl Word {
     pub fn name(self) -> &'static str {
         match self {
             Word::Fields => "fields",
+            Word::Names => "names",
             Word::Files => "files",
             Word::Words => "words",
             Word::Lex => "lex",
@@ -64,6 +67,7 @@ impl Word {
     pub fn file(self) -> &'static str {
         match self {
             Word::Fields => "fields.txt",
+            Word::Names => "names.txt",
             Word::Files => "files.txt",
             Word::Words => "words.txt",
             Word::Lex => "lex.txt",
@@ -103,7 +107,7 @@ impl Word {
                 spelled_heap_is_one();
                 other_bytes_tell_nothing();
             }
-            Word::Files | Word::Plans | Word::Match => {}
+            Word::Names | Word::Files | Word::Plans | Word::Match => {}
         }
     }
 }

@@ -1,4 +1,4 @@
-use c_model::{BinaryOp, Expr, FullExpr, Program, Stmt, UnaryOp};
+use thin_model::{BinaryOp, Expr, FullExpr, Program, Stmt, UnaryOp};
 use std::alloc::{AllocError, Global};
 
 fn sign_of(op: UnaryOp) -> &'static str {

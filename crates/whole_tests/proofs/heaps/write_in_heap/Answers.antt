@@ -1,7 +1,7 @@
 use Rattle.std.proofs.Common.{ℕ, List, ◌∙◌, inl, inr, slice_index, ap, arith}
 use Rattle.rank_range.proofs.NumberLemmas.{byte_stays}
 use Rattle.isomalloc.proofs.Top.{others_tell_nothing, some_heap}
-use Rattle.isomalloc.proofs.tests.write_in_heap.Goals as goal
+use Rattle.whole_tests.proofs.heaps.write_in_heap.Goals as goal
 
 pub returns : goal.returns
 returns g c =

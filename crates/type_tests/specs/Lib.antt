@@ -1,0 +1,5 @@
+pub mod Making
+pub mod Reading
+pub mod Ring
+pub mod Copies
+pub mod Turns
