@@ -1,7 +1,6 @@
 -- Lists that are read and written one value after another.
-use Rattle.std.proofs.Common.{◌≡◌, ◌∙◌, ◌+◌, ◌-◌, ◌<◌, ℕ, zero, suc, Bool, true, false, ◌==◌, List, [], ◌∷◌, ◌++◌, length, take, get_or, Option, Some, None, refl, sym, ap, arith, append_assoc, append-nil}
+use Rattle.std.proofs.Common.{◌≡◌, ◌∙◌, ℕ, suc, true, false, ◌==◌, List, [], ◌∷◌, ◌++◌, length, Option, Some, None, refl, sym, ap, arith, append_assoc, append-nil}
 use Rattle.std.proofs.lemmas.Bool.{eqb-true}
-use Rattle.std.specs.List.{flat_map, list_all}
 use Rattle.byte_formats.specs.Formats.{Format, then_read, read_many}
 use Rattle.byte_formats.specs.Lawful.{AreBytes, IsInFront, IsFormat, Spells}
 use Rattle.byte_formats.specs.FormatLaws.{none_found}
