@@ -1,3 +1,5 @@
+//! Numbers of one, two, four and eight bytes.
+
 ghost use Rattle.std.specs.Prelude.{◌≡◌, [], ◌∷◌, ◌++◌, true, Some, None, IfOk, OnOk, IsErrOf};
 ghost use Rattle.byte_formats.specs.declared.cursor.Unspelled.TheVariants.{Bad, Memory};
 ghost use Rattle.byte_formats.specs.Formats.{number8, number16, number32, number64, signed32, block, text};

@@ -1,3 +1,5 @@
+//! Laws of formats: they are read back, and nothing else is read.
+
 ghost use Rattle.std.specs.Prelude.{◌≡◌, ◌≢◌, ◌↔◌, ℕ, Bool, true, false, List, [], Option, Some};
 ghost use Rattle.byte_formats.specs.Formats.{Format, number8, number16, number32, number64, signed32, nothing, block, text, both, made, coded, restricted, ascending, optional, many, counted, listed};
 ghost use Rattle.byte_formats.specs.Choices.{Kinds, kind, or_kinds, tagged, one_of_two, one_of_three};

@@ -1,3 +1,5 @@
+//! Texts and blocks of bytes.
+
 ghost use Rattle.std.specs.Prelude.{◌≡◌};
 ghost use Rattle.byte_formats.specs.Formats.{number8, number16, number32, number64, signed32, text};
 ghost use Rattle.byte_formats.specs.FormatLaws.{number8_is, number16_is, number32_is, number64_is, signed32_is, text_is};

@@ -1,3 +1,5 @@
+//! Whole spellings: read to the end, or written behind others.
+
 ghost use Rattle.std.specs.Prelude.{◌≡◌, ◌++◌, true, Some, None, length, IfOk, OnOk, IsErrOf};
 ghost use Rattle.std.specs.List.{list_all};
 ghost use Rattle.byte_formats.specs.declared.cursor.Unspelled.TheVariants.{Bad};

@@ -1,3 +1,5 @@
+//! What the members of a collective get.
+
 ghost use Rattle.std.specs.Prelude.{◌≡◌, ◌+◌, ◌*◌, ◌<◌, ◌≤◌, ◌^◌, ◌==◌, if◌then◌else◌, [], All, IfOk, length};
 ghost use Rattle.std.specs.List.{flat_map, list_all};
 ghost use Rattle.mpi_types.specs.Collected.{sent_blocks, root_of, is_member, block_bytes, are_alike, is_allowed, is_type_allowed, is_operation_allowed, is_body_whole, are_bodies_whole, are_sound, Brings, body_of, block_at, reduction, share_of, collected};

@@ -1,3 +1,5 @@
+//! What a member joins a collective with.
+
 ghost use Rattle.std.specs.Prelude.{◌≡◌, IfOk};
 
 use crate::{Collective, Ctx, Sequence};

@@ -1,3 +1,5 @@
+//! The kinds of collectives.
+
 ghost use Rattle.std.specs.Prelude.{◌≡◌, ◌≢◌, MatchOption};
 ghost use Rattle.mpi_types.specs.declared.collective.Collective.{Collective};
 ghost use Rattle.mpi_types.specs.Tables.{collective_number, is_typed, is_reducing};

@@ -1,3 +1,5 @@
+//! Groups, and how they are split.
+
 ghost use Rattle.std.specs.Prelude.{◌≡◌, IfOk};
 
 use crate::{Ctx, Sequence};

@@ -1,3 +1,5 @@
+//! Laws of MPI's data.
+
 ghost use Rattle.mpi_types.specs.Accepts.{AcceptanceIsTested};
 ghost use Rattle.mpi_types.specs.Groups.{SplitsAreOrdered};
 ghost use Rattle.mpi_types.specs.Post.{InsertionIsOnePlace};

@@ -1,3 +1,5 @@
+//! What a rank has of MPI.
+
 use crate::{Communicator, MatchBook, Message, Sequence, Sweep};
 
 /// How far a rank is with MPI (MPI 3.1, section 8.7).
