@@ -1,4 +1,4 @@
-//! Texts and blocks of bytes.
+//! Numbers and texts with their readers and writers.
 
 ghost use Rattle.std.specs.Prelude.{◌≡◌};
 ghost use Rattle.byte_formats.specs.Formats.{number8, number16, number32, number64, signed32, text};

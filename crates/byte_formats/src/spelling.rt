@@ -1,4 +1,4 @@
-//! Whole spellings: read to the end, or written behind others.
+//! Formats with their readers and their writers.
 
 ghost use Rattle.std.specs.Prelude.{◌≡◌, ◌++◌, true, Some, None, length, IfOk, OnOk, IsErrOf};
 ghost use Rattle.std.specs.List.{list_all};
