@@ -1,0 +1,5 @@
+pub mod Outcome
+pub mod Calls
+pub mod Run
+pub mod Statements
+pub mod Means

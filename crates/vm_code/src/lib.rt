@@ -1,0 +1,11 @@
+//! The code of the stack machine: its instructions, what each of them does, and how a listing spells them. It knows no
+//! program.
+#![tactic(auto)]
+
+mod code;
+mod instr;
+mod spelling;
+
+pub use code::{Code, Function, Parameter};
+pub use instr::Instr;
+pub use spelling::listing;
