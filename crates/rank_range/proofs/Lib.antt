@@ -5,3 +5,6 @@ pub mod KindLemmas
 pub mod OperatorLemmas
 pub mod LineLemmas
 pub mod PartLemmas
+pub mod AccessLemmas
+pub mod ChangeLemmas
+pub mod FitLemmas
