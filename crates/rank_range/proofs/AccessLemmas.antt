@@ -1,13 +1,18 @@
 -- What is read and put by areas is what stands in the rank's bytes.
-use Rattle.std.proofs.Common.{◌≡◌, ℕ, zero, suc, ◌+◌, ◌-◌, ◌*◌, ◌^◌, ◌<◌, ◌≤◌, ◌⊎◌, ◌∙◌, inl, inr, Bool, true, false, List, [], ◌∷◌, ◌++◌, length, take, drop, refl, sym, ap, subst, arith, Option, Some, None, length-drop}
-use Rattle.std.specs.Prelude.{IsTrue, ◌↔◌, if◌then◌else◌, nat_le, nat_lt, ◌&&◌}
-use Rattle.std.proofs.lemmas.Bool.{lt-ltb, le-ltb, le-leb, lt-leb, ltb-true, ltb-false, leb-true, leb-false, cases_lt, false_from_ne_true}
-use Rattle.std.proofs.lemmas.List.{take-take, drop-take, drop-drop}
+use Rattle.std.proofs.Common.{◌≡◌, ℕ, zero, suc, ◌+◌, ◌-◌, ◌<◌, ◌≤◌, ◌⊎◌, ◌∙◌, inl, inr, Bool, true, false, List, [], ◌∷◌, length, take, drop, refl, sym, ap, subst, arith, Option, Some, None, replicate, Result, Ok, Err, IfOk, OnOk, OnErr}
+use Rattle.std.specs.Prelude.{if◌then◌else◌, nat_le, nat_lt, ◌&&◌, option_map, option_and_then, slice_index}
+use Rattle.std.proofs.lemmas.Bool.{lt-ltb, le-ltb, le-leb, lt-leb, leb-true, cases_lt, false_from_ne_true}
+use Rattle.std.proofs.lemmas.List.{take-take, drop-take, drop-drop, length-replicate}
 use Rattle.std.proofs.Math.Bool.{and-false}
 use Rattle.rank_range.specs.Layout.{base_of, globals_start, heap_start, stack_start, range_bytes, AllIn, Accessible, IsRange}
 use Rattle.rank_range.specs.Parts.{part, with_part, StayBeside}
-use Rattle.rank_range.specs.Areas.{Areas, is_between, is_in, globals_at, heap_at, stack_at, bytes_from, bytes_at, put_at, with_bytes_at, areas_of, room_at, is_accessible, TellsAccessible, AreRead, ArePut}
-use Rattle.rank_range.proofs.PartLemmas.{part_length, part_put, part_stays, put_beside, put_length, put_none, no_part, no_put}
+use Rattle.rank_range.specs.Numbers.{number_at, with_number}
+use Rattle.rank_range.specs.Nodes.{HeapBytesStay}
+use Rattle.byteorder.specs.Endian.{little_number, little_bytes}
+use Rattle.byteorder.specs.Numbers.{length-bytes_low_first}
+use Rattle.rank_range.proofs.FitLemmas.{blocks_stay}
+use Rattle.rank_range.specs.Areas.{Areas, is_between, is_in, globals_at, heap_at, stack_at, bytes_from, bytes_at, put_at, with_bytes_at, areas_of, room_at, is_accessible, TellsAccessible, AreRead, ArePut, Becomes, copied_at, number_of, with_number_of}
+use Rattle.rank_range.proofs.PartLemmas.{part_length, part_put, part_stays, put_beside, put_length, put_none, no_part, no_put, number_part, number_put}
 
 -- ---- tests
 
@@ -405,3 +410,187 @@ are_put rank top a bytes new range =
     ap (λ (k : ℕ). if nat_le (length new) k then Some (put_at areas a new) else None) (from_length rank top a bytes range)
     ∙ if_same (nat_le (length new) room) (Some (put_at areas a new)) (Some (areas_of rank top (with_part bytes (a - base_of rank) new))) None
     (λ t. ap Some (put_areas rank top a bytes new range (leb-true (length new) room t)))
+
+-- ---- what the calls of a memory ensure
+
+-- the place of accessible bytes
+abbrev Placed : ℕ → ℕ → ℕ → Type 0
+Placed at n size = (globals_start ≤ at) × (at + n ≤ range_bytes) × (size ≡ range_bytes)
+
+placed : (rank top a n : ℕ) (bytes : List ℕ) → IsRange top bytes → Accessible rank top a (suc n)
+    → (globals_start ≤ a - base_of rank) × (a - base_of rank + suc n ≤ range_bytes)
+placed rank top a n bytes range (inl all) =
+    let e = ends_in (base_of rank + globals_start) (base_of rank + heap_start) a n all in
+    let low = e.0 in
+    let high = e.1 in
+    (omega (arith, low), omega (arith, low, high))
+placed rank top a n bytes range (inr (inl all)) =
+    let e = ends_in (base_of rank + heap_start) (base_of rank + stack_start) a n all in
+    let low = e.0 in
+    let high = e.1 in
+    (omega (arith, low), omega (arith, low, high))
+placed rank top a n bytes range (inr (inr all)) =
+    let e = ends_in (base_of rank + stack_start) (base_of rank + top) a n all in
+    let low = e.0 in
+    let high = e.1 in
+    let below = range.below in
+    (omega (arith, low), omega (arith, low, high, below))
+
+stays_all : (bytes new : List ℕ) (start end : ℕ) → new ≡ bytes → StayBeside bytes new start end
+stays_all bytes new start end same = record { at = λ i apart. ap (λ (xs : List ℕ). slice_index xs i) same }
+
+-- no byte before the globals changes
+put_stays : (rank top a : ℕ) (bytes new : List ℕ) → IsRange top bytes → Accessible rank top a (length new)
+    → StayBeside bytes (with_part bytes (a - base_of rank) new) globals_start range_bytes
+    × (length (with_part bytes (a - base_of rank) new) ≡ length bytes)
+put_stays rank top a bytes [] range all =
+    let same = put_none bytes (a - base_of rank) in
+    (stays_all bytes (with_part bytes (a - base_of rank) []) globals_start range_bytes same, ap length same)
+put_stays rank top a bytes (b ∷ bs) range all =
+    let p = placed rank top a (length bs) bytes range all in
+    let low = p.0 in
+    let high = p.1 in
+    let whole = range.whole in (
+      put_beside bytes (b ∷ bs) (a - base_of rank) globals_start range_bytes (omega (arith, high, whole)) low high,
+      put_length bytes (b ∷ bs) (a - base_of rank) (omega (arith, high, whole)),
+    )
+
+heap_bytes_stay : (bytes new : List ℕ) → StayBeside bytes new globals_start range_bytes → HeapBytesStay bytes new
+heap_bytes_stay bytes new stay i there =
+    stay.at i (inl (elim there [ inl low ↦ omega (arith, low) | inr nodes ↦ nodes.1 ]))
+
+pub becomes : (rank top a : ℕ) (old new bytes : List ℕ) → IsRange top old → Accessible rank top a (length bytes)
+    → new ≡ with_part old (a - base_of rank) bytes → Becomes rank top old new (with_bytes_at (areas_of rank top old) a bytes)
+becomes rank top a old new bytes range all is =
+    let put = with_part old (a - base_of rank) bytes in
+    let stays = put_stays rank top a old bytes range all in
+    let P : List ℕ → Type 0 = λ xs. Becomes rank top old xs (with_bytes_at (areas_of rank top old) a bytes) in
+    subst P (sym is)
+    (record {
+      areas_are = are_put rank top a old bytes range
+          ∙ ap (λ (t : Bool). if t then Some (areas_of rank top put) else None) (accessible_yes rank top a (length bytes) all);
+      blocks_are = blocks_stay rank old put (heap_bytes_stay old put stays.0);
+      beside = stays.0;
+      whole = stays.1;
+    })
+
+pub refused : (rank top a : ℕ) (old bytes : List ℕ) → IsRange top old → (Accessible rank top a (length bytes) → ⊥)
+    → with_bytes_at (areas_of rank top old) a bytes ≡ None
+refused rank top a old bytes range none =
+    are_put rank top a old bytes range
+    ∙ ap (λ (t : Bool). if t then Some (areas_of rank top (with_part old (a - base_of rank) bytes)) else None) (accessible_no rank top a (length bytes) none)
+
+pub read_yes : (rank top a n : ℕ) (bytes : List ℕ) → IsRange top bytes → Accessible rank top a n
+    → bytes_at (areas_of rank top bytes) a n ≡ Some (part bytes (a - base_of rank) n)
+read_yes rank top a n bytes range all =
+    are_read rank top a n bytes range
+    ∙ ap (λ (t : Bool). if t then Some (part bytes (a - base_of rank) n) else None) (accessible_yes rank top a n all)
+
+pub read_no : (rank top a n : ℕ) (bytes : List ℕ) → IsRange top bytes → (Accessible rank top a n → ⊥)
+    → bytes_at (areas_of rank top bytes) a n ≡ None
+read_no rank top a n bytes range none =
+    are_read rank top a n bytes range
+    ∙ ap (λ (t : Bool). if t then Some (part bytes (a - base_of rank) n) else None) (accessible_no rank top a n none)
+
+-- ---- numbers
+
+pub load_yes : (rank top a n v : ℕ) (bytes : List ℕ) → IsRange top bytes → Accessible rank top a n
+    → v ≡ number_at bytes (a - base_of rank) n → number_of (areas_of rank top bytes) a n ≡ Some v
+unfolding number_of
+load_yes rank top a n v bytes range all is =
+    ap (option_map (little_number n)) (read_yes rank top a n bytes range all)
+    ∙ ap Some (sym (is ∙ number_part bytes (a - base_of rank) n))
+
+pub load_no : (rank top a n : ℕ) (bytes : List ℕ) → IsRange top bytes → (Accessible rank top a n → ⊥)
+    → number_of (areas_of rank top bytes) a n ≡ None
+unfolding number_of
+load_no rank top a n bytes range none = ap (option_map (little_number n)) (read_no rank top a n bytes range none)
+
+pub store_yes : (rank top a n v : ℕ) (old new : List ℕ) → IsRange top old → Accessible rank top a n
+    → new ≡ with_number old (a - base_of rank) n v → Becomes rank top old new (with_number_of (areas_of rank top old) a n v)
+unfolding with_number_of
+store_yes rank top a n v old new range all is =
+    let count = length-bytes_low_first 0 n v in
+    becomes rank top a old new (little_bytes n v) range (subst (Accessible rank top a) (sym count) all)
+    (is ∙ number_put old (a - base_of rank) n v)
+
+pub store_no : (rank top a n v : ℕ) (old : List ℕ) → IsRange top old → (Accessible rank top a n → ⊥)
+    → with_number_of (areas_of rank top old) a n v ≡ None
+unfolding with_number_of
+store_no rank top a n v old range none =
+    let count = length-bytes_low_first 0 n v in
+    refused rank top a old (little_bytes n v) range (λ all. none (subst (Accessible rank top a) count all))
+
+-- ---- filling and copying
+
+pub fill_yes : (rank top a n byte : ℕ) (old new : List ℕ) → IsRange top old → Accessible rank top a n
+    → new ≡ with_part old (a - base_of rank) (replicate n byte) → Becomes rank top old new (with_bytes_at (areas_of rank top old) a (replicate n byte))
+fill_yes rank top a n byte old new range all is =
+    becomes rank top a old new (replicate n byte) range (subst (Accessible rank top a) (sym (length-replicate n byte)) all) is
+
+pub fill_no : (rank top a n byte : ℕ) (old : List ℕ) → IsRange top old → (Accessible rank top a n → ⊥)
+    → with_bytes_at (areas_of rank top old) a (replicate n byte) ≡ None
+fill_no rank top a n byte old range none =
+    refused rank top a old (replicate n byte) range (λ all. none (subst (Accessible rank top a) (length-replicate n byte) all))
+
+-- accessible bytes are there
+there_length : (rank top a n : ℕ) (bytes : List ℕ) → IsRange top bytes → Accessible rank top a n
+    → length (part bytes (a - base_of rank) n) ≡ n
+there_length rank top a zero bytes range all = ap length (no_part bytes (a - base_of rank) 0 refl)
+there_length rank top a (suc n) bytes range all =
+    let p = placed rank top a n bytes range all in
+    let high = p.1 in
+    let whole = range.whole in
+    part_length bytes (a - base_of rank) (suc n) (omega (arith, high, whole))
+
+pub copy_yes : (rank top to from n : ℕ) (old new : List ℕ) → IsRange top old → Accessible rank top from n → Accessible rank top to n
+    → new ≡ with_part old (to - base_of rank) (part old (from - base_of rank) n)
+    → Becomes rank top old new (copied_at (areas_of rank top old) to from n)
+unfolding copied_at
+copy_yes rank top to from n old new range there room is =
+    let bytes = part old (from - base_of rank) n in
+    let count = there_length rank top from n old range there in
+    let areas = areas_of rank top old in
+    let P : Option (List ℕ) → Type 0 = λ o. Becomes rank top old new (option_and_then (with_bytes_at areas to) o) in
+    subst P (sym (read_yes rank top from n old range there))
+    (becomes rank top to old new bytes range (subst (Accessible rank top to) (sym count) room) is)
+
+-- whether bytes are accessible is decided
+decided : (rank top a n : ℕ) → Accessible rank top a n ⊎ (Accessible rank top a n → ⊥)
+decided rank top a n =
+    elim (cases_lt (room_at rank top a) n) [
+      | inl less ↦ inr (λ all. let few = room_of rank top a n all in absurd (omega (arith, few, less)))
+      | inr more ↦ inl (room_in rank top a (lies rank top a) n more)
+    ]
+
+pub copy_no : (rank top to from n : ℕ) (old : List ℕ) → IsRange top old → (Accessible rank top from n → Accessible rank top to n → ⊥)
+    → copied_at (areas_of rank top old) to from n ≡ None
+unfolding copied_at
+copy_no rank top to from n old range none =
+    let areas = areas_of rank top old in
+    elim (decided rank top from n) [
+      | inl there ↦
+          let count = there_length rank top from n old range there in
+          ap (option_and_then (with_bytes_at areas to)) (read_yes rank top from n old range there)
+          ∙ refused rank top to old (part old (from - base_of rank) n) range (λ all. none there (subst (Accessible rank top to) count all))
+      | inr away ↦ ap (option_and_then (with_bytes_at areas to)) (read_no rank top from n old range away)
+    ]
+
+-- ---- by cases of an answer
+
+pub if_ok : {X E : Type 0} (r : Result X E) (P Q : X → Type 0) (A : Type 0) → ((x : X) → P x → A → Q x)
+    → IfOk r P → OnOk r A → IfOk r Q
+if_ok (Ok x) P Q A step p a = step x p a
+if_ok (Err e) P Q A step p a = tt
+
+pub on_ok_two : {X E : Type 0} (r : Result X E) (P Q R : Type 0) → (P → Q → R) → OnOk r P → OnOk r Q → OnOk r R
+on_ok_two (Ok x) P Q R step p q = step p q
+on_ok_two (Err e) P Q R step p q = tt
+
+pub on_ok_three : {X E : Type 0} (r : Result X E) (P Q R S : Type 0) → (P → Q → R → S) → OnOk r P → OnOk r Q → OnOk r R → OnOk r S
+on_ok_three (Ok x) P Q R S step p q r = step p q r
+on_ok_three (Err e) P Q R S step p q r = tt
+
+pub on_err_by : {X E : Type 0} (r : Result X E) (P Q : Type 0) → (P → Q) → OnErr r P → OnErr r Q
+on_err_by (Ok x) P Q step p = tt
+on_err_by (Err e) P Q step p = step p

@@ -1,7 +1,6 @@
 -- What stays beside changes of a list of bytes, and what is read from equal bytes.
-use Rattle.std.proofs.Common.{◌≡◌, ℕ, zero, suc, ◌+◌, ◌^◌, ◌<◌, ◌≤◌, ◌⊎◌, inl, inr, Bool, List, ◌∙◌, length, drop, slice_index, refl, sym, ap, subst, arith}
+use Rattle.std.proofs.Common.{◌≡◌, ℕ, ◌+◌, ◌<◌, ◌≤◌, ◌⊎◌, inl, inr, Bool, List, ◌∙◌, length, drop, slice_index, refl, sym, ap, subst, arith}
 use Rattle.std.proofs.lemmas.List.{get_or-drop}
-use Rattle.byteorder.specs.Endian.{little_from}
 use Rattle.rank_range.specs.Layout.{MarksChanges}
 use Rattle.rank_range.specs.Numbers.{number_at, with_number}
 use Rattle.rank_range.specs.Parts.{StayBeside, Keeps}

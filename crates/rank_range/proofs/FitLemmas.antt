@@ -1,12 +1,12 @@
 -- What is computed as the first fit is it, and what is read along the links is what the bytes spell.
-use Rattle.std.proofs.Common.{◌≡◌, ℕ, zero, suc, ◌+◌, ◌-◌, ◌*◌, ◌<◌, ◌≤◌, ◌⊎◌, ◌∙◌, inl, inr, Bool, true, false, List, [], ◌∷◌, ◌++◌, length, refl, sym, ap, subst, arith}
-use Rattle.std.specs.Prelude.{if◌then◌else◌, nat_le, nat_lt, ◌==◌, ◌&&◌, ◌||◌, slice_index}
+use Rattle.std.proofs.Common.{◌≡◌, ℕ, zero, suc, ◌+◌, ◌*◌, ◌<◌, ◌≤◌, ◌⊎◌, ◌∙◌, inl, inr, Bool, true, false, List, [], ◌∷◌, length, refl, sym, ap, subst, arith}
+use Rattle.std.specs.Prelude.{if◌then◌else◌, nat_le, nat_lt, ◌==◌, ◌&&◌, ◌||◌}
 use Rattle.std.specs.List.{All}
-use Rattle.std.proofs.lemmas.Bool.{true≢false, lt-ltb, le-ltb, le-leb, lt-leb, ltb-true, leb-true, cases_lt, cases_eq}
+use Rattle.std.proofs.lemmas.Bool.{true≢false, lt-ltb, le-ltb, le-leb, lt-leb, ltb-true, leb-true, cases_lt}
 use Rattle.std.proofs.lemmas.List.Elements.{All-head, All-tail, All-nil, All-cons}
 use Rattle.rank_range.specs.Layout.{base_of, heap_start, stack_start}
 use Rattle.rank_range.specs.Heap.{Fits, IsFirstFit, IsApart, rounded, most_blocks, is_apart, are_apart, fit_from, first_fit, AreFirstFits}
-use Rattle.rank_range.specs.Nodes.{Node, AreLinked, Cover, SpellsBlocks, AreSpelled, BlocksStay, HeapBytesStay, first_of, first_node, node_at, node_place, node_count, no_node, heap_units, pieces_of, piece_of, chain_of, blocks_of}
+use Rattle.rank_range.specs.Nodes.{Node, AreLinked, Cover, AreSpelled, BlocksStay, first_of, first_node, node_at, node_place, node_count, heap_units, pieces_of, chain_of, blocks_of}
 use Rattle.rank_range.specs.declared.heap.Block.{Block}
 use Rattle.rank_range.proofs.HeapLemmas.{NoneBelow, found, too_many, none_fits}
 use Rattle.rank_range.proofs.ChangeLemmas.{number_same, node_same}

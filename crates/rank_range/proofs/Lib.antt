@@ -8,3 +8,4 @@ pub mod PartLemmas
 pub mod AccessLemmas
 pub mod ChangeLemmas
 pub mod FitLemmas
+pub mod TextLemmas

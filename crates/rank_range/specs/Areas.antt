@@ -1,11 +1,11 @@
 -- A rank's memory as its program sees it: three areas as lists, and the live blocks of its heap. What a list doesn't hold
 -- isn't there. All of it is this profile's own.
-use Rattle.std.specs.Prelude.{ℕ, ◌≡◌, ◌≢◌, ◌+◌, ◌-◌, ◌<◌, ◌≤◌, ◌==◌, ◌&&◌, ◌↔◌, if◌then◌else◌, Bool, IsTrue, nat_lt, nat_le, Option, Some, None, option_map, List, [], ◌∷◌, ◌++◌, length, replicate, take, drop}
+use Rattle.std.specs.Prelude.{ℕ, ◌≡◌, ◌≢◌, ◌+◌, ◌-◌, ◌==◌, ◌&&◌, ◌↔◌, if◌then◌else◌, Bool, IsTrue, nat_lt, nat_le, Option, Some, None, option_map, option_and_then, List, [], ◌∷◌, ◌++◌, length, replicate, take, drop}
 use Rattle.std.specs.List.{AllByRecursion}
 use Rattle.byteorder.specs.Endian.{little_number, little_bytes}
 use Rattle.rank_range.specs.declared.heap.Block.{Block}
 use Rattle.rank_range.specs.Layout.{base_of, globals_start, heap_start, stack_start, range_bytes, Accessible, IsRange}
-use Rattle.rank_range.specs.Parts.{part, with_part}
+use Rattle.rank_range.specs.Parts.{part, with_part, StayBeside}
 use Rattle.rank_range.specs.Heap.{first_fit, rounded, with_block, without, is_live}
 use Rattle.rank_range.specs.Nodes.{blocks_of}
 
@@ -68,6 +68,10 @@ put_at areas a new =
 -- the same, where these bytes are all in one area
 unfoldable pub with_bytes_at : Areas → ℕ → List ℕ → Option Areas
 with_bytes_at areas a new = if nat_le (length new) (length (bytes_from areas a)) then Some (put_at areas a new) else None
+
+-- the areas with the n bytes from the address `from` on also from the address `to` on, as if by a buffer
+unfoldable pub copied_at : Areas → ℕ → ℕ → ℕ → Option Areas
+copied_at areas to from n = option_and_then (with_bytes_at areas to) (bytes_at areas from n)
 
 -- the number in the n bytes from the address a on, and the areas with the lowest n bytes of v there
 unfoldable pub number_of : Areas → ℕ → ℕ → Option ℕ
@@ -157,3 +161,10 @@ ArePut =
 -- The text at an address is the one that the relation tells.
 abbrev pub AreTexts : Type 0
 AreTexts = (areas : Areas) (a : ℕ) (text : List ℕ) → (text_at areas a ≡ Some text) ↔ IsTextAt areas a text
+
+-- The areas become these, where there are some: no byte before the globals changes, and no block.
+pub record Becomes (rank top : ℕ) (old new : List ℕ) (areas : Option Areas) : Type 0 where
+  pub areas_are : areas ≡ Some (areas_of rank top new)
+  pub blocks_are : blocks_of rank new ≡ blocks_of rank old
+  pub beside : StayBeside old new globals_start range_bytes
+  pub whole : length new ≡ length old

@@ -7,3 +7,4 @@ pub mod Kinds
 pub mod Operators
 pub mod Output
 pub mod Areas
+pub mod Library

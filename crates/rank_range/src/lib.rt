@@ -1,6 +1,7 @@
 //! A rank's memory: its addresses, the bytes that it may reach, and what its heap is.
 #![tactic(auto)]
 
+pub mod access;
 mod flat;
 mod heap;
 mod kinds;
