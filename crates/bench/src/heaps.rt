@@ -20,7 +20,7 @@ pub enum Pattern {
 }
 
 impl Pattern {
-    pub fn of(kind: &str) -> Option<Pattern> {
+    pub(crate) fn of(kind: &str) -> Option<Pattern> {
         match kind {
             "fill" => Some(Pattern::Fill),
             "sawtooth" => Some(Pattern::Sawtooth),
@@ -32,7 +32,7 @@ impl Pattern {
 
 /// How many calls are made in so many turns with so many blocks: two a block, and one a turn where they have no order. The heap must
 /// answer each with a block, or with its return.
-pub fn calls_answered(
+pub(crate) fn calls_answered(
     alloc: Global,
     pattern: Pattern,
     blocks: u32,
