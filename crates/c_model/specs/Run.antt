@@ -16,12 +16,8 @@ use Rattle.rank_range.specs.Kinds.{convert}
 use Rattle.rank_range.specs.Operators.{operate, operate_one}
 use Rattle.rank_range.specs.Areas.{Memory}
 use Rattle.vm_code.specs.Memory.{loaded, stored, copied, address_of}
+use Rattle.c_types.specs.declared.expression.Operand.TheOpen.{Operand-F, Step-F, Expr-F}
 use Rattle.c_types.specs.declared.expression.Expr.{Expr, fold-Expr}
-use Rattle.c_types.specs.declared.expression.Expr.TheOpen.{Expr-F}
-use Rattle.c_types.specs.declared.expression.Operand.{Operand}
-use Rattle.c_types.specs.declared.expression.Operand.TheVariants as operand
-use Rattle.c_types.specs.declared.expression.Step.{Step}
-use Rattle.c_types.specs.declared.expression.Step.TheVariants as step
 use Rattle.c_types.specs.declared.expression.OffsetBy.{OffsetBy}
 use Rattle.c_types.specs.declared.expression.OffsetBy.TheVariants.{PointerPlusNumber, NumberPlusPointer, PointerMinusNumber}
 use Rattle.c_types.specs.declared.expression.Direction.{Direction}
@@ -63,15 +59,15 @@ abbrev pub in_order_of : List Value → Surroundings → Here → (List ℕ → 
 in_order_of [] around here next = next []
 in_order_of (v ∷ vs) around here next = v around here (λ x. in_order_of vs around here (λ xs. next (x ∷ xs)))
 
-abbrev pub operand_value : Operand Value → Value
-operand_value (operand.Number word) around here next = next word
-operand_value (operand.Local offset) around here next = with_memory (λ m. next (address_of m (here.frame + offset)))
-operand_value (operand.Object number) around here next = with_memory (λ m. next (address_of m (around.object number)))
-operand_value (operand.Call function args) around here next =
+abbrev pub operand_value : Operand-F Value (ℕ → Value) Value → Value
+operand_value (Operand-F.Number word) around here next = next word
+operand_value (Operand-F.Local offset) around here next = with_memory (λ m. next (address_of m (here.frame + offset)))
+operand_value (Operand-F.Object number) around here next = with_memory (λ m. next (address_of m (around.object number)))
+operand_value (Operand-F.Call function args) around here next =
     in_order_of args around here (λ words. around.calling function words here next)
-operand_value (operand.Library call args) around here next =
+operand_value (Operand-F.Library call args) around here next =
     in_order_of args around here (λ words. library_call call words here next)
-operand_value (operand.Mpi call args) around here next = in_order_of args around here (λ words. mpi_call call words here next)
+operand_value (Operand-F.Mpi call args) around here next = in_order_of args around here (λ words. mpi_call call words here next)
 
 -- the number of the kind at an address, and the memory with another one there
 abbrev pub load : Kind → ℕ → Here → (ℕ → Rest) → Rest
@@ -111,41 +107,41 @@ given_of New old new = new
 given_of Old old new = old
 
 -- What a step does with the value so far.
-abbrev pub step_value : Step Value → ℕ → Value
-step_value (step.Load k) x around here next = load k x here next
-step_value (step.Convert from to) x around here next = next (convert x from to)
-step_value (step.Unary o k) x around here next = next (operate_one o k x)
-step_value step.Not x around here next = next (negated x)
-step_value (step.Member offset) x around here next = next (word_plus x offset)
-step_value (step.Binary o k b) x around here next = b around here (λ y. with_result (operate o k x y) here next)
-step_value (step.Greater k b) x around here next = b around here (λ y. with_result (operate op.Less k y x) here next)
-step_value (step.AtLeast k b) x around here next = b around here (λ y. with_result (operate op.AtMost k y x) here next)
-step_value (step.Offset by scale b) x around here next = b around here (λ y. next (element by scale x y))
-step_value (step.Difference size b) x around here next = b around here (λ y. elements_between size x y here next)
-step_value (step.And b) x around here next = choose x (b around here (λ y. next (truth_of y))) (next 0)
-step_value (step.Or b) x around here next = choose x (next 1) (b around here (λ y. next (truth_of y)))
-step_value (step.Conditional b c) x around here next = choose x (b around here next) (c around here next)
-step_value (step.Comma b) x around here next = b around here next
-step_value (step.Assign k b) x around here next = b around here (λ y. store k x y here (next y))
-step_value (step.Copy size b) x around here next =
+abbrev pub step_value : Step-F Value (ℕ → Value) Value → ℕ → Value
+step_value (Step-F.Load k) x around here next = load k x here next
+step_value (Step-F.Convert from to) x around here next = next (convert x from to)
+step_value (Step-F.Unary o k) x around here next = next (operate_one o k x)
+step_value Step-F.Not x around here next = next (negated x)
+step_value (Step-F.Member offset) x around here next = next (word_plus x offset)
+step_value (Step-F.Binary o k b) x around here next = b around here (λ y. with_result (operate o k x y) here next)
+step_value (Step-F.Greater k b) x around here next = b around here (λ y. with_result (operate op.Less k y x) here next)
+step_value (Step-F.AtLeast k b) x around here next = b around here (λ y. with_result (operate op.AtMost k y x) here next)
+step_value (Step-F.Offset by scale b) x around here next = b around here (λ y. next (element by scale x y))
+step_value (Step-F.Difference size b) x around here next = b around here (λ y. elements_between size x y here next)
+step_value (Step-F.And b) x around here next = choose x (b around here (λ y. next (truth_of y))) (next 0)
+step_value (Step-F.Or b) x around here next = choose x (next 1) (b around here (λ y. next (truth_of y)))
+step_value (Step-F.Conditional b c) x around here next = choose x (b around here next) (c around here next)
+step_value (Step-F.Comma b) x around here next = b around here next
+step_value (Step-F.Assign k b) x around here next = b around here (λ y. store k x y here (next y))
+step_value (Step-F.Copy size b) x around here next =
     b around here (λ y. with_memory (λ m. writing (copied m x y size) here (next x)))
-step_value (step.Update o k at b) x around here next =
+step_value (Step-F.Update o k at b) x around here next =
     load k x here (λ old. b around here (λ y. with_result (operate o at (convert old k at) y) here (λ new.
     let word : ℕ = convert new at k in store k x word here (next word))))
-step_value (step.Advance direction scale b) x around here next =
+step_value (Step-F.Advance direction scale b) x around here next =
     load kind.UnsignedLong x here (λ old. b around here (λ y.
     let word : ℕ = moved direction old (y * scale) in store kind.UnsignedLong x word here (next word)))
-step_value (step.Count c direction given) x around here next =
+step_value (Step-F.Count c direction given) x around here next =
     load (counted_kind c) x here (λ old. let word : ℕ = next_of c direction old in
     store (counted_kind c) x word here (next (given_of given old word)))
 
 -- steps, one behind the other
-abbrev pub steps_value : List (Step Value) → ℕ → Value
+abbrev pub steps_value : List (ℕ → Value) → ℕ → Value
 steps_value [] x around here next = next x
-steps_value (s ∷ ss) x around here next = step_value s x around here (λ y. steps_value ss y around here next)
+steps_value (s ∷ ss) x around here next = s x around here (λ y. steps_value ss y around here next)
 
-abbrev pub value_step : Expr-F Value → Value
-value_step e around here next = operand_value e.first around here (λ x. steps_value e.steps x around here next)
+abbrev pub value_step : Expr-F Value (ℕ → Value) Value → Value
+value_step e around here next = e.first around here (λ x. steps_value e.steps x around here next)
 
 unfoldable pub value : Expr → Value
-value = fold-Expr Value value_step
+value = fold-Expr Value (ℕ → Value) Value operand_value step_value value_step

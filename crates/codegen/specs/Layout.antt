@@ -4,12 +4,8 @@ use Rattle.rank_range.specs.declared.kinds.Kind.{Kind}
 use Rattle.rank_range.specs.declared.kinds.Kind.TheVariants as kind
 use Rattle.rank_range.specs.declared.operators.Binary.{Binary as Operator}
 use Rattle.rank_range.specs.declared.operators.Binary.TheVariants as op
+use Rattle.c_types.specs.declared.expression.Operand.TheOpen.{Operand-F, Step-F, Expr-F}
 use Rattle.c_types.specs.declared.expression.Expr.{Expr, fold-Expr}
-use Rattle.c_types.specs.declared.expression.Expr.TheOpen.{Expr-F}
-use Rattle.c_types.specs.declared.expression.Operand.{Operand}
-use Rattle.c_types.specs.declared.expression.Operand.TheVariants as operand
-use Rattle.c_types.specs.declared.expression.Step.{Step}
-use Rattle.c_types.specs.declared.expression.Step.TheVariants as step
 use Rattle.c_types.specs.declared.expression.OffsetBy.{OffsetBy}
 use Rattle.c_types.specs.declared.expression.OffsetBy.TheVariants.{PointerPlusNumber, NumberPlusPointer, PointerMinusNumber}
 use Rattle.c_types.specs.declared.expression.Direction.{Direction}
@@ -68,13 +64,13 @@ abbrev pub in_order : List Part → Part
 in_order [] = nothing
 in_order (a ∷ rest) = a then in_order rest
 
-abbrev pub operand_part : (ℕ → ℕ) → Operand Part → Part
-operand_part object (operand.Number word) = one (Push word)
-operand_part object (operand.Local offset) = one (Local offset)
-operand_part object (operand.Object number) = one (Global (object number))
-operand_part object (operand.Call function parts) = in_order parts then one (Call function (length parts))
-operand_part object (operand.Library call parts) = in_order parts then one (Library call (length parts))
-operand_part object (operand.Mpi call parts) =
+abbrev pub operand_part : (ℕ → ℕ) → Operand-F Part Part Part → Part
+operand_part object (Operand-F.Number word) = one (Push word)
+operand_part object (Operand-F.Local offset) = one (Local offset)
+operand_part object (Operand-F.Object number) = one (Global (object number))
+operand_part object (Operand-F.Call function parts) = in_order parts then one (Call function (length parts))
+operand_part object (Operand-F.Library call parts) = in_order parts then one (Library call (length parts))
+operand_part object (Operand-F.Mpi call parts) =
     in_order parts then one (Mpi call (length parts) false) then one (Mpi call (length parts) true)
 
 abbrev pub converted : Kind → Kind → Part
@@ -109,38 +105,34 @@ abbrev pub given_part : Given → Counted → Direction → Part
 given_part New c direction = nothing
 given_part Old c direction = one (Push (amount c)) then on_words (against direction) then one (Extend (counted_kind c))
 
-abbrev pub step_part : Step Part → Part
-step_part (step.Load k) = one (Load k)
-step_part (step.Convert from to) = converted from to
-step_part (step.Unary o k) = one (Unary o k)
-step_part step.Not = negation
-step_part (step.Member offset) = one (Push offset) then on_words op.Add
-step_part (step.Binary o k b) = b then one (Binary o k)
-step_part (step.Greater k b) = b then one (Binary op.AtMost k) then negation
-step_part (step.AtLeast k b) = b then one (Binary op.Less k) then negation
-step_part (step.Offset by scale b) = offset_part by scale b
-step_part (step.Difference size b) = b then on_words op.Subtract then one (Push size) then one (Binary op.Divide kind.Long)
-step_part (step.And b) = over JumpIfZero 3 b then truths false
-step_part (step.Or b) = over JumpIfNot 3 b then truths true
-step_part (step.Conditional b c) = over JumpIfZero 1 b then over Jump 0 c
-step_part (step.Comma b) = one Pop then b
-step_part (step.Assign k b) = b then one (Store k)
-step_part (step.Copy size b) = b then one (Copy size)
-step_part (step.Update o k at b) =
+abbrev pub step_part : Step-F Part Part Part → Part
+step_part (Step-F.Load k) = one (Load k)
+step_part (Step-F.Convert from to) = converted from to
+step_part (Step-F.Unary o k) = one (Unary o k)
+step_part Step-F.Not = negation
+step_part (Step-F.Member offset) = one (Push offset) then on_words op.Add
+step_part (Step-F.Binary o k b) = b then one (Binary o k)
+step_part (Step-F.Greater k b) = b then one (Binary op.AtMost k) then negation
+step_part (Step-F.AtLeast k b) = b then one (Binary op.Less k) then negation
+step_part (Step-F.Offset by scale b) = offset_part by scale b
+step_part (Step-F.Difference size b) = b then on_words op.Subtract then one (Push size) then one (Binary op.Divide kind.Long)
+step_part (Step-F.And b) = over JumpIfZero 3 b then truths false
+step_part (Step-F.Or b) = over JumpIfNot 3 b then truths true
+step_part (Step-F.Conditional b c) = over JumpIfZero 1 b then over Jump 0 c
+step_part (Step-F.Comma b) = one Pop then b
+step_part (Step-F.Assign k b) = b then one (Store k)
+step_part (Step-F.Copy size b) = b then one (Copy size)
+step_part (Step-F.Update o k at b) =
     one Dup then one (Load k) then converted k at then b then one (Binary o at) then converted at k then one (Store k)
-step_part (step.Advance direction scale b) =
+step_part (Step-F.Advance direction scale b) =
     one Dup then one (Load kind.UnsignedLong) then b then scaled scale then on_words (moving direction) then one (Store kind.UnsignedLong)
-step_part (step.Count c direction given) =
+step_part (Step-F.Count c direction given) =
     one Dup then one (Load (counted_kind c)) then one (Push (amount c)) then on_words (moving direction) then one (Extend (counted_kind c))
     then one (Store (counted_kind c)) then given_part given c direction
 
-abbrev pub steps_part : List (Step Part) → Part
-steps_part [] = nothing
-steps_part (s ∷ ss) = step_part s then steps_part ss
-
-abbrev pub expr_step : (ℕ → ℕ) → Expr-F Part → Part
-expr_step object e = operand_part object e.first then steps_part e.steps
+abbrev pub expr_step : Expr-F Part Part Part → Part
+expr_step e = e.first then in_order e.steps
 
 -- an expression, where static objects stand at these offsets of the globals
 unfoldable pub expr_part : (ℕ → ℕ) → Expr → Part
-expr_part object = fold-Expr Part (expr_step object)
+expr_part object = fold-Expr Part Part Part (operand_part object) step_part expr_step

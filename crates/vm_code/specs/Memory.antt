@@ -12,7 +12,7 @@ use Rattle.vm_code.specs.declared.code.Parameter.{Parameter}
 
 -- the address of a place in the rank's range, as a word
 abbrev pub address_of : Memory → ℕ → ℕ
-address_of m place = (m.areas.base + place) % 2 ^ 64
+address_of m place = (base_of m.areas.rank + place) % 2 ^ 64
 
 -- where the data stack ends, as a place in the range
 abbrev pub stack_top : Memory → ℕ
@@ -72,7 +72,7 @@ unfoldable pub opened : Segment → ℕ → Memory
 opened segment rank =
     record {
       areas = record {
-        base = base_of rank;
+        rank = rank;
         globals = fold (with_base (base_of rank)) segment.bytes segment.fixes ++ replicate (heap_start - globals_start - length segment.bytes) 0;
         heap = replicate (stack_start - heap_start) 0;
         stack = [];
