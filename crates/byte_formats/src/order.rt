@@ -1,3 +1,5 @@
+//! Whether a list ascends.
+
 ghost use Rattle.std.specs.Prelude.{◌≡◌, Bool};
 ghost use Rattle.std.specs.Fn.{ComputesOnPairs};
 ghost use Rattle.byte_formats.specs.Formats.{ascends};
