@@ -1,3 +1,5 @@
+//! Expressions of the typed program.
+
 use am_base::{LibCall, MpiCall};
 use rank_range::{Binary, Kind, Unary};
 use sqlite_items::{Boxed, Items};
