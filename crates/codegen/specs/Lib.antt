@@ -1,3 +1,0 @@
-pub mod Sizes
-pub mod Layout
-pub mod Statements

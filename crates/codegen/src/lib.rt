@@ -1,2 +1,0 @@
-//! Makes the code of a typed program for the stack machine.
-#![tactic(auto)]
