@@ -5,3 +5,4 @@ pub mod Library
 pub mod Lines
 pub mod Machine
 pub mod Listing
+pub mod Laws

@@ -1,5 +1,5 @@
 -- How a listing spells code: a line for each instruction, with its number, its name and its operands. This profile's own.
-use Rattle.std.specs.Prelude.{ℕ, suc, ◌+◌, ◌-◌, List, [], ◌∷◌, ◌++◌, length, drop, codes}
+use Rattle.std.specs.Prelude.{ℕ, suc, List, [], ◌∷◌, ◌++◌, length, drop, codes}
 use Rattle.std.specs.Fmt.{decimal}
 use Rattle.am_base.specs.Calls.{lib_name, mpi_name}
 use Rattle.rank_range.specs.declared.kinds.Kind.{Kind}

@@ -1,9 +1,8 @@
 -- The stack machine: what it does at one instruction, and in so many of them. Its memory is that of the rank's program; it
 -- has no bytes of its own.
-use Rattle.std.specs.Prelude.{ℕ, ◌≡◌, zero, suc, ◌+◌, ◌-◌, ◌^◌, ◌%◌, ℤ, if◌then◌else◌, nat_eq, nat_le, nat_lt, Bool, true, false, List, [], ◌∷◌, ◌++◌, length, reverse, take, drop, Option, Some, None, Result, Ok, Err, slice_get}
+use Rattle.std.specs.Prelude.{ℕ, ◌≡◌, zero, suc, ◌+◌, if◌then◌else◌, nat_eq, nat_le, nat_lt, Bool, true, false, List, [], ◌∷◌, length, reverse, take, drop, Option, Some, None, Result, Ok, Err, slice_get}
 use Rattle.am_base.specs.declared.traps.TrapCause.{TrapCause}
 use Rattle.am_base.specs.declared.traps.TrapCause.TheVariants.{BadAddress, CallDepth, DataStack, TextLimit}
-use Rattle.am_base.specs.declared.calls.LibCall.{LibCall}
 use Rattle.am_base.specs.declared.calls.MpiCall.{MpiCall}
 use Rattle.rank_range.specs.Layout.{globals_start, stack_start, range_bytes}
 use Rattle.rank_range.specs.Kinds.{extended, word_of, value_of}
@@ -14,14 +13,13 @@ use Rattle.mpi_types.specs.declared.call.Answer.{Answer}
 use Rattle.mpi_types.specs.declared.call.Answer.TheVariants.{Half, Value, Trap, End}
 use Rattle.vm_code.specs.declared.code.Code.{Code}
 use Rattle.vm_code.specs.declared.code.Function.{Function}
-use Rattle.vm_code.specs.declared.code.Parameter.{Parameter}
 use Rattle.vm_code.specs.declared.instr.Instr.{Instr}
 use Rattle.vm_code.specs.declared.instr.Instr.TheVariants as instr
 use Rattle.rank_range.specs.Areas.{Memory}
 use Rattle.vm_code.specs.Memory.{address_of, stack_top, loaded, stored, copied, zeroed, with_frame, with_arguments, cut_to, written_all}
 use Rattle.vm_code.specs.Stops.{Stop, Paused, Waits, Ended, Trapped, Done, asked, with_ticks, printed, fits_text, nothing_done}
 use Rattle.vm_code.specs.Library.{LibraryDone, Does, Fails, Exits, library_does}
-use Rattle.vm_code.specs.Lines.{Place, place_of}
+use Rattle.vm_code.specs.Lines.{place_of}
 
 -- how many operands may be pending in a call
 abbrev pub operand_limit : ℕ

@@ -1,3 +1,5 @@
+//! The code of a program.
+
 ghost use Rattle.std.specs.Prelude.{length, ◌<◌, ◌^◌};
 ghost use Rattle.vm_code.specs.Bounded.{IsBounded};
 

@@ -1,3 +1,5 @@
+//! The instructions of the stack machine.
+
 use am_base::{LibCall, MpiCall};
 use rank_range::{Binary, Kind, Unary};
 
@@ -38,7 +40,7 @@ pub enum Instr {
     /// Goes on at a place.
     Jump(u32),
     /// Takes a word, and goes on at a place where it is 0.
-    JumpIfZero(u64),
+    JumpIfZero(u32),
     /// Takes a word, and goes on at a place where it isn't 0.
     JumpIfNot(u32),
     /// A tick point. It tells the unit and the line of the traps behind it.

@@ -4,8 +4,10 @@
 
 mod code;
 mod instr;
+mod laws;
 mod spelling;
 
 pub use code::{Code, Function, Parameter};
 pub use instr::Instr;
+pub use laws::{a_stopped_machine_stays, lines_are_told_before};
 pub use spelling::listing;

@@ -1,4 +1,4 @@
-use Rattle.std.proofs.Common.{◌≡◌, ℕ, ◌++◌, drop}
+use Rattle.std.proofs.Common.{◌≡◌, ◌++◌, drop}
 use Rattle.vm_code.specs.Listing.{listing_from}
 use Rattle.vm_code.proofs.spelling.listing.Given as goal
 
