@@ -1,0 +1,4 @@
+mod Extending
+mod Valuing
+mod Acting
+mod Running

@@ -1,15 +1,12 @@
 -- What a call of the library or of MPI does in a run.
-use Rattle.std.specs.Prelude.{ℕ, zero, suc, ◌+◌, ◌^◌, ◌%◌, ℤ, Bool, true, false, List, [], ◌∷◌}
+use Rattle.std.specs.Prelude.{ℕ, zero, suc, Bool, true, false, List, [], ◌∷◌}
 use Rattle.am_base.specs.declared.calls.LibCall.{LibCall}
 use Rattle.am_base.specs.declared.calls.MpiCall.{MpiCall}
 use Rattle.rank_range.specs.Kinds.{word_of}
-use Rattle.mpi_types.specs.declared.call.Call.{Call}
-use Rattle.mpi_types.specs.declared.call.Answer.{Answer}
 use Rattle.mpi_types.specs.declared.call.Answer.TheVariants.{Half, Value, Trap, End}
-use Rattle.rank_range.specs.Areas.{Memory}
 use Rattle.vm_code.specs.Memory.{written_all}
 use Rattle.vm_code.specs.Library.{LibraryDone, Does, Fails, Exits, library_does}
-use Rattle.vm_code.specs.Stops.{Done, Paused, Waits, Ended, asked}
+use Rattle.vm_code.specs.Stops.{Paused, Waits, Ended, asked}
 use Rattle.vm_code.specs.Machine.{call_of}
 use Rattle.c_model.specs.Outcome.{Rest, Here, stops, traps, tick, with_memory, set_memory, printing}
 

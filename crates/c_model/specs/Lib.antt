@@ -3,3 +3,4 @@ pub mod Calls
 pub mod Run
 pub mod Statements
 pub mod Means
+pub mod Laws

@@ -5,16 +5,12 @@
 -- the library or of MPI; some calls of MPI take two. A run is given the ticks that it may take and the answers that its
 -- calls of MPI get; where none is left it stops there. What a rank does depends on nothing but its program, its number,
 -- these answers and these ticks.
-use Rattle.std.specs.Prelude.{ℕ, zero, suc, ◌+◌, ◌-◌, ◌*◌, ◌^◌, ◌%◌, ℤ, pos, if◌then◌else◌, nat_eq, nat_le, nat_lt, Bool, true, false, List, [], ◌∷◌, ◌++◌, length, Option, None, Some, slice_get}
-use Rattle.am_base.specs.declared.traps.TrapCause.TheVariants.{BadAddress, CallDepth, DataStack}
-use Rattle.am_base.specs.declared.calls.LibCall.{LibCall}
-use Rattle.am_base.specs.declared.calls.MpiCall.{MpiCall}
+use Rattle.std.specs.Prelude.{ℕ, ◌+◌, ◌-◌, ◌*◌, ◌^◌, ◌%◌, if◌then◌else◌, nat_eq, List, [], ◌∷◌}
 use Rattle.rank_range.specs.declared.kinds.Kind.{Kind}
 use Rattle.rank_range.specs.declared.kinds.Kind.TheVariants as kind
 use Rattle.rank_range.specs.declared.operators.Binary.TheVariants as op
 use Rattle.rank_range.specs.Kinds.{convert}
 use Rattle.rank_range.specs.Operators.{operate, operate_one}
-use Rattle.rank_range.specs.Areas.{Memory}
 use Rattle.vm_code.specs.Memory.{loaded, stored, copied, address_of}
 use Rattle.c_types.specs.declared.expression.Operand.TheOpen.{Operand-F, Step-F, Expr-F}
 use Rattle.c_types.specs.declared.expression.Expr.{Expr, fold-Expr}

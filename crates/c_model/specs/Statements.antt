@@ -1,10 +1,10 @@
 -- What statements and functions do in a run, and the run of a program.
-use Rattle.std.specs.Prelude.{ℕ, zero, suc, ◌+◌, ◌^◌, ◌%◌, ℤ, if◌then◌else◌, nat_eq, nat_le, List, [], ◌∷◌, length, take, Option, None, Some, slice_get, get_or}
+use Rattle.std.specs.Prelude.{ℕ, zero, suc, ◌+◌, pos, if◌then◌else◌, nat_eq, nat_le, List, [], ◌∷◌, length, take, Option, None, Some, slice_get, get_or}
 use Rattle.am_base.specs.declared.traps.TrapCause.TheVariants.{CallDepth, DataStack}
 use Rattle.rank_range.specs.declared.run.Segment.{Segment}
 use Rattle.rank_range.specs.Areas.{Memory}
 use Rattle.vm_code.specs.Memory.{opened, copied, zeroed, address_of, stack_top, with_frame, with_arguments, cut_to}
-use Rattle.vm_code.specs.Stops.{Stop, Paused, Ended, nothing_done}
+use Rattle.vm_code.specs.Stops.{Paused, Ended, nothing_done}
 use Rattle.vm_code.specs.Machine.{call_limit}
 use Rattle.vm_code.specs.declared.code.Parameter.{Parameter as CodeParameter}
 use Rattle.rank_range.specs.Layout.{globals_start, stack_start, range_bytes}
@@ -21,12 +21,11 @@ use Rattle.c_types.specs.declared.statement.Stored.{Stored}
 use Rattle.c_types.specs.declared.statement.Stored.TheVariants.{Number, Structure}
 use Rattle.c_types.specs.declared.statement.Case.{Case}
 use Rattle.c_types.specs.declared.program.Program.{Program}
-use Rattle.c_types.specs.declared.program.Function.{Function}
 use Rattle.c_types.specs.declared.program.Body.{Body}
 use Rattle.c_types.specs.declared.program.Parameter.{Parameter}
 use Rattle.c_types.specs.declared.program.Main.{Main}
 use Rattle.c_model.specs.Outcome.{Rest, Here, Outcome, stops, traps, tick, with_memory, set_memory, writing, choose}
-use Rattle.c_model.specs.Run.{Calling, Surroundings, Value, value, store}
+use Rattle.c_model.specs.Run.{Calling, Surroundings, value, store}
 
 -- Where a statement goes on that doesn't end at its end.
 pub record Exits : Type 0 where
@@ -34,12 +33,14 @@ pub record Exits : Type 0 where
   pub on_continue : Rest
   pub on_return : ℕ → Rest
 
--- What a statement does: from where its function's frame begins and by its unit, by its exits, and by what comes next.
+-- Where a statement stands: what calls do and where static objects stand, where its function's frame begins in the range, and
+-- its unit.
 pub record Frame : Type 0 where
   pub around : Surroundings
   pub start : ℕ
   pub unit : ℕ
 
+-- What a statement does: from where it stands, by its exits, and by what comes next.
 abbrev pub Meaning : Type 0
 Meaning = Frame → Exits → Rest → Rest
 
@@ -136,7 +137,8 @@ abbrev pub switched : Option ℕ → Acts → Meaning
 switched None body f exits next = next
 switched (Some label) body f exits next = entered_at (body.from label) f exits next
 
--- An automatic declarator with its initialiser.
+-- An automatic declarator with its initialiser: its bytes are made zero, and then each value is evaluated and stored. As in an
+-- assignment, the address is there before the value.
 abbrev pub made_zero : Option Span → Frame → Here → Rest → Rest
 made_zero None f here next = next
 made_zero (Some span) f here next =
@@ -149,7 +151,7 @@ put (Structure size) a word here next = with_memory (λ m. writing (copied m a w
 abbrev pub stored_in_order : List Store → Frame → ℕ → Rest → Rest
 stored_in_order [] f line next = next
 stored_in_order (s ∷ ss) f line next =
-    evaluated s.value f line (λ word. with_memory (λ m.
+    with_memory (λ m. evaluated s.value f line (λ word.
     put s.stored (address_of m (f.start + s.offset)) word (here_at f line) (stored_in_order ss f line next)))
 
 abbrev pub declared : Declared → Frame → Rest → Rest
@@ -256,9 +258,10 @@ main_words m count = take count (1 ∷ address_of m globals_start ∷ [])
 abbrev pub parameter_count : Program → ℕ → ℕ
 parameter_count program number = elim (body_of program number) [ None ↦ 0 | Some body ↦ length body.parameters ]
 
--- The run of `main`: its return ends the rank with its result as an int.
+-- The run of `main`: its return ends the rank with its result as an int. A program without `main` has no segment, so it isn't
+-- run; that it ends at once says nothing of a rank.
 abbrev pub main_run : Program → Segment → Memory → Option Main → Rest
-main_run program segment m None = stops Paused
+main_run program segment m None = stops (Ended (pos 0))
 main_run program segment m (Some main) =
     called program (place_in segment) call_limit main.function (main_words m (parameter_count program main.function))
     (record { frame = stack_start; unit = main.unit; line = main.line })
