@@ -1,0 +1,190 @@
+-- The code of statements, functions and programs.
+use Rattle.std.specs.Prelude.{ℕ, ◌+◌, List, [], ◌∷◌, ◌++◌, length, map, Option, None, Some}
+use Rattle.rank_range.specs.declared.run.Segment.{Segment}
+use Rattle.c_types.specs.declared.expression.FullExpr.{FullExpr}
+use Rattle.c_types.specs.declared.statement.Stmt.{Stmt, fold-Stmt}
+use Rattle.c_types.specs.declared.statement.Stmt.TheOpen.{Stmt-F}
+use Rattle.c_types.specs.declared.statement.Declared.{Declared}
+use Rattle.c_types.specs.declared.statement.Span.{Span}
+use Rattle.c_types.specs.declared.statement.Store.{Store}
+use Rattle.c_types.specs.declared.statement.Stored.{Stored}
+use Rattle.c_types.specs.declared.statement.Stored.TheVariants.{Number, Structure}
+use Rattle.c_types.specs.declared.program.Program.{Program}
+use Rattle.c_types.specs.declared.program.Body.{Body}
+use Rattle.c_types.specs.declared.program.Function.{Function}
+use Rattle.c_types.specs.declared.program.Parameter.{Parameter}
+use Rattle.vm_code.specs.declared.code.Function.{Function as CodeFunction}
+use Rattle.vm_code.specs.declared.code.Parameter.{Parameter as CodeParameter}
+use Rattle.vm_code.specs.declared.instr.Instr.{Instr}
+use Rattle.vm_code.specs.declared.instr.Instr.TheVariants.{Push, Pop, Local, Store as StoreAt, Copy, Zero, Jump, JumpIfZero, Tick, Return}
+use Rattle.codegen.specs.Layout.{Part, nothing, one, ◌then◌, expr_part}
+use Rattle.codegen.specs.Sizes.{expr_size, dropped_size, test_size, again_size, declared_size, all_declared_size, return_size}
+
+-- What is around a statement: the unit of its lines, and where static objects stand among the globals.
+pub record Within : Type 0 where
+  pub unit : ℕ
+  pub object : ℕ → ℕ
+
+-- where `break` and `continue` lead
+pub record Targets : Type 0 where
+  pub to_break : ℕ
+  pub to_continue : ℕ
+
+-- the code of a statement, and how many instructions it has
+pub record Piece : Type 0 where
+  pub size : ℕ
+  pub part : Targets → Part
+
+abbrev pub ticked : Within → ℕ → Part
+ticked w line = one (Tick w.unit line)
+
+abbrev pub full_part : Within → FullExpr → Part
+full_part w e = expr_part w.object e.expr
+
+abbrev pub dropped_part : Within → Option FullExpr → Part
+dropped_part w None = nothing
+dropped_part w (Some e) = full_part w e then one Pop
+
+-- a test, and a jump to the end where it fails; one that is missing holds
+abbrev pub test_part : Within → Option FullExpr → ℕ → Part
+test_part w None end = nothing
+test_part w (Some e) end = full_part w e then one (JumpIfZero end)
+
+abbrev pub zeros_part : Option Span → Part
+zeros_part None = nothing
+zeros_part (Some span) = one (Local span.offset) then one (Zero span.size)
+
+abbrev pub put_part : Stored → Instr
+put_part (Number k) = StoreAt k
+put_part (Structure size) = Copy size
+
+abbrev pub stores_part : Within → List Store → Part
+stores_part w [] = nothing
+stores_part w (s ∷ ss) = one (Local s.offset) then full_part w s.value then one (put_part s.stored) then one Pop then stores_part w ss
+
+abbrev pub declared_part : Within → Declared → Part
+declared_part w d = ticked w d.line then zeros_part d.zeros then stores_part w d.stores
+
+abbrev pub all_declared_part : Within → List Declared → Part
+all_declared_part w [] = nothing
+all_declared_part w (d ∷ ds) = declared_part w d then all_declared_part w ds
+
+-- The step of a `for` stands behind its body, behind a tick point that is jumped over: it only tells the line.
+abbrev pub again_part : Within → ℕ → Option FullExpr → Part
+again_part w line None = nothing
+again_part w line (Some e) = λ place. (one (Jump (place + 2)) then ticked w line then full_part w e then one Pop) place
+
+-- where `continue` leads in a `for`: to its step, else to its test
+abbrev pub continue_place : Option FullExpr → ℕ → ℕ → ℕ
+continue_place None test step = test
+continue_place (Some e) test step = step
+
+abbrev pub returned_part : Within → Option FullExpr → Part
+returned_part w None = one (Push 0)
+returned_part w (Some e) = full_part w e
+
+abbrev pub in_order_part : List Piece → Targets → Part
+in_order_part [] t = nothing
+in_order_part (p ∷ ps) t = p.part t then in_order_part ps t
+
+abbrev pub sizes_of : List Piece → ℕ
+sizes_of [] = 0
+sizes_of (p ∷ ps) = p.size + sizes_of ps
+
+abbrev pub if_piece : Within → ℕ → FullExpr → Piece → Option Piece → Piece
+if_piece w line e s None = record {
+  size = 1 + expr_size e.expr + 1 + s.size;
+  part = λ t place. (ticked w line then full_part w e then one (JumpIfZero (place + 1 + expr_size e.expr + 1 + s.size)) then s.part t) place;
+}
+if_piece w line e s (Some otherwise) = record {
+  size = 1 + expr_size e.expr + 1 + s.size + 1 + otherwise.size;
+  part = λ t place.
+      (ticked w line then full_part w e then one (JumpIfZero (place + 1 + expr_size e.expr + 1 + s.size + 1)) then s.part t
+      then one (Jump (place + 1 + expr_size e.expr + 1 + s.size + 1 + otherwise.size)) then otherwise.part t) place;
+}
+
+abbrev pub while_piece : Within → ℕ → FullExpr → Piece → Piece
+while_piece w line e s =
+    let size : ℕ = 2 + expr_size e.expr + 1 + s.size + 1 in
+    record {
+      size = size;
+      part = λ t place.
+          (ticked w line then ticked w line then full_part w e then one (JumpIfZero (place + size))
+          then s.part (record { to_break = place + size; to_continue = place + 1 }) then one (Jump (place + 1))) place;
+    }
+
+-- The test of a `do` stands before its body, and is jumped over at first: so the one jump back leads to a tick point.
+abbrev pub do_piece : Within → ℕ → Piece → FullExpr → Piece
+do_piece w line s e =
+    let size : ℕ = 3 + expr_size e.expr + 1 + s.size + 1 in
+    record {
+      size = size;
+      part = λ t place.
+          (ticked w line then one (Jump (place + 3 + expr_size e.expr + 1)) then ticked w line then full_part w e then one (JumpIfZero (place + size))
+          then s.part (record { to_break = place + size; to_continue = place + 2 }) then one (Jump (place + 2))) place;
+    }
+
+abbrev pub for_piece : Within → ℕ → List Declared → Option FullExpr → Option FullExpr → Option FullExpr → Piece → Piece
+for_piece w line ds start test step s =
+    let before : ℕ = 1 + all_declared_size ds + dropped_size start in
+    let behind : ℕ = before + 1 + test_size test + s.size in
+    let size : ℕ = behind + again_size step + 1 in
+    record {
+      size = size;
+      part = λ t place.
+          (ticked w line then all_declared_part w ds then dropped_part w start then ticked w line then test_part w test (place + size)
+          then s.part (record { to_break = place + size; to_continue = continue_place step (place + before) (place + behind + 2) })
+          then again_part w line step then one (Jump (place + before))) place;
+    }
+
+abbrev pub stmt_step : Within → Stmt-F Piece → Piece
+stmt_step w (Stmt-F.Empty line) = record { size = 1; part = λ t. ticked w line }
+stmt_step w (Stmt-F.Express line e) =
+    record { size = 1 + expr_size e.expr + 1; part = λ t. ticked w line then full_part w e then one Pop }
+stmt_step w (Stmt-F.Declare d) = record { size = declared_size d; part = λ t. declared_part w d }
+stmt_step w (Stmt-F.Block ps) = record { size = sizes_of ps; part = in_order_part ps }
+stmt_step w (Stmt-F.If line e s otherwise) = if_piece w line e s otherwise
+stmt_step w (Stmt-F.While line e s) = while_piece w line e s
+stmt_step w (Stmt-F.Do line s e) = do_piece w line s e
+stmt_step w (Stmt-F.For line ds start test step s) = for_piece w line ds start test step s
+stmt_step w (Stmt-F.Switch line e cases default s) = record { size = 0; part = λ t. nothing }
+stmt_step w (Stmt-F.Labelled label s) = s
+stmt_step w (Stmt-F.Break line) = record { size = 2; part = λ t. ticked w line then one (Jump t.to_break) }
+stmt_step w (Stmt-F.Continue line) = record { size = 2; part = λ t. ticked w line then one (Jump t.to_continue) }
+stmt_step w (Stmt-F.Return line e) =
+    record { size = 1 + return_size e + 1; part = λ t. ticked w line then returned_part w e then one Return }
+
+unfoldable pub stmt_piece : Within → Stmt → Piece
+stmt_piece w = fold-Stmt Piece (stmt_step w)
+
+-- the statements of a function, of which the last is followed by a return of 0
+abbrev pub body_part : (ℕ → ℕ) → Body → Part
+body_part object body =
+    in_order_part (map (stmt_piece (record { unit = body.unit; object = object })) body.stmts) (record { to_break = 0; to_continue = 0 })
+    then one (Push 0) then one Return
+
+abbrev pub body_size : Body → ℕ
+body_size body = sizes_of (map (stmt_piece (record { unit = body.unit; object = λ number. 0 })) body.stmts) + 2
+
+abbrev pub function_part : (ℕ → ℕ) → Function → Part
+function_part object function = elim function.body [ None ↦ nothing | Some body ↦ body_part object body ]
+
+abbrev pub function_size : Function → ℕ
+function_size function = elim function.body [ None ↦ 0 | Some body ↦ body_size body ]
+
+abbrev pub functions_part : (ℕ → ℕ) → List Function → Part
+functions_part object [] = nothing
+functions_part object (f ∷ fs) = function_part object f then functions_part object fs
+
+-- the functions as the code has them, where the first one begins at this place
+abbrev pub parameters_of : List Parameter → List CodeParameter
+parameters_of [] = []
+parameters_of (p ∷ ps) = record { offset = p.offset; kind = p.kind } ∷ parameters_of ps
+
+abbrev pub entry_at : ℕ → Option Body → CodeFunction
+entry_at place None = record { place = place; frame = 0; parameters = [] }
+entry_at place (Some body) = record { place = place; frame = body.frame; parameters = parameters_of body.parameters }
+
+abbrev pub entries_from : ℕ → List Function → List CodeFunction
+entries_from place [] = []
+entries_from place (f ∷ fs) = entry_at place f.body ∷ entries_from (place + function_size f) fs

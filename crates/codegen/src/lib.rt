@@ -1,0 +1,2 @@
+//! Makes the code of a typed program for the stack machine.
+#![tactic(auto)]
