@@ -118,13 +118,13 @@ many words stack next =
     ∙ ap (λ w. next w stack) (reverse-reverse words)
 
 -- behind an instruction, where there are no more operands than may be
-goes : (operands : List ℕ) (c : Config) → length operands ≤ operand_limit → go_on operands c ≡ Went (at_place (c.place + 1) operands c)
+pub goes : (operands : List ℕ) (c : Config) → length operands ≤ operand_limit → go_on operands c ≡ Went (at_place (c.place + 1) operands c)
 goes operands c le =
     ap (λ (b : Bool). if b then Went (at_place (c.place + 1) operands c) else Stuck) (le-leb (length operands) operand_limit le)
 
 module _ (code : Code) (s : Standing) where
   -- the step at a place
-  stepped : (i : Instr) (place : ℕ) (stack : List ℕ) (n : ℕ) (answers : List Answer) (done : Done) → slice_get code.instrs place ≡ Some i
+  pub stepped : (i : Instr) (place : ℕ) (stack : List ℕ) (n : ℕ) (answers : List Answer) (done : Done) → slice_get code.instrs place ≡ Some i
       → one_step code (at s place stack n answers done) ≡ act code (Some i) (at s place stack n answers done)
   stepped i place stack n answers done here = ap (λ o. act code o (at s place stack n answers done)) here
 
@@ -192,7 +192,7 @@ module _ (code : Code) (s : Standing) where
   }
 
   -- a trap at a place of this line
-  at_trap : (cause : TrapCause) (place : ℕ) (stack rest : List ℕ) (here : Here) (n : ℕ) (answers : List Answer) (done : Done) → Told code place here
+  pub at_trap : (cause : TrapCause) (place : ℕ) (stack rest : List ℕ) (here : Here) (n : ℕ) (answers : List Answer) (done : Done) → Told code place here
       → one_step code (at s place stack n answers done) ≡ machine.trapped code cause rest (at s place stack n answers done)
       → Stops code (at s place stack n answers done) (traps cause here n answers done).stop (traps cause here n answers done).done
   at_trap cause place stack rest here n answers done told e =

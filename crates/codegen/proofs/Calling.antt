@@ -1,0 +1,221 @@
+-- The machine runs backward over calls: of the library, of MPI and of functions, and over a return.
+use Rattle.std.proofs.Common.{◌≡◌, ◌⊎◌, inl, inr, ℕ, zero, suc, ◌+◌, ◌≤◌, ◌<◌, Bool, true, false, not, List, [], ◌∷◌, length, refl, sym, ap, ◌∙◌, subst, arith}
+use Rattle.std.specs.Prelude.{slice_get, nat_le, nat_lt, if◌then◌else◌, Option, Some, None}
+use Rattle.std.proofs.lemmas.Bool.{le-leb, lt-leb}
+use Rattle.std.proofs.lemmas.Bool.Decides.{leb_tells}
+use Rattle.am_base.specs.declared.traps.TrapCause.TheVariants.{TextLimit, DataStack, CallDepth}
+use Rattle.am_base.specs.declared.calls.LibCall.{LibCall}
+use Rattle.am_base.specs.declared.calls.MpiCall.{MpiCall}
+use Rattle.rank_range.specs.Areas.{Memory}
+use Rattle.rank_range.specs.Layout.{range_bytes}
+use Rattle.rank_range.specs.Kinds.{word_of, value_of}
+use Rattle.rank_range.specs.declared.kinds.Kind.TheVariants as kind
+use Rattle.mpi_types.specs.declared.call.Answer.{Answer}
+use Rattle.mpi_types.specs.declared.call.Answer.TheVariants.{Half, Value, Trap, End}
+use Rattle.vm_code.specs.declared.code.Code.{Code}
+use Rattle.vm_code.specs.declared.code.Function.{Function}
+use Rattle.vm_code.specs.declared.instr.Instr.{Instr}
+use Rattle.vm_code.specs.declared.instr.Instr.TheVariants as instr
+use Rattle.vm_code.specs.Memory.{stack_top, with_frame, with_arguments, written_all}
+use Rattle.vm_code.specs.Stops.{Paused, Ended, Trapped, Done, asked, with_ticks, fits_text, printed}
+use Rattle.vm_code.specs.Library.{LibraryDone, Does as Gives, Fails, Exits, library_does}
+use Rattle.vm_code.specs.Machine as machine
+use Rattle.vm_code.specs.Machine.{Config, Frame, Went, Stopped, Stuck, Stops, operand_limit, call_limit, act, one_step, go_on, at_place, ticking, mpi_tick as machine_tick, answered, entered, call_of}
+use Rattle.c_model.specs.Outcome.{Rest, Here, tick, traps, with_memory, set_memory, stops}
+use Rattle.c_model.specs.Calls.{library_done, library_call, mpi_tick, mpi_call}
+use Rattle.c_model.specs.Statements.{left_frame}
+use Rattle.codegen.proofs.Running.{Standing, at, Does, Told, onto, many, goes, went, stopped, at_trap, stepped}
+
+-- what ends the rank with a word as an int
+abbrev pub ended : ℕ → Rest
+ended word = stops (Ended (value_of kind.Int word))
+
+too_far_by : (a b : ℕ) → ((nat_le a b ≡ true) × (a ≤ b)) ⊎ ((nat_le a b ≡ false) × (b < a)) → nat_lt b a ≡ not (nat_le a b)
+too_far_by a b (inl (e, le)) = lt-leb (suc b) a (omega (arith, le)) ∙ ap not (sym e)
+too_far_by a b (inr (e, lt)) = le-leb (suc b) a lt ∙ ap not (sym e)
+
+too_far : (a b : ℕ) → nat_lt b a ≡ not (nat_le a b)
+too_far a b = too_far_by a b (leb_tells a b)
+
+module _ (code : Code) (s : Standing) where
+  pub does_library : (call : LibCall) (words : List ℕ) (place : ℕ) (stack : List ℕ) (most : ℕ) (here : Here) (next : ℕ → Rest)
+      → slice_get code.instrs place ≡ Some (instr.Library call (length words)) → Told code place here → length stack < operand_limit
+      → ((x : ℕ) → Does code s (place + 1) (x ∷ stack) most (next x)) → Does code s place (onto words stack) most (library_call call words here next)
+  unfolding act
+  does_library call words place stack most here next is told fits d = record { by = turn }
+    where
+      printing_way : (n : ℕ) (answers : List Answer) (done : Done) → n ≤ most → (value : ℕ) (text : List ℕ) (m : Memory) (before : Done) (left : ℕ) (b : Bool)
+          → one_step code (at s place (onto words stack) left answers before) ≡ (if b
+          then go_on (value ∷ stack) (machine.with_memory m (at s place (onto words stack) n answers (printed done text)))
+          else machine.trapped code TextLimit stack (at s place (onto words stack) n answers done))
+          → Stops code (at s place (onto words stack) left answers before)
+          (if b then set_memory m (next value) n answers (printed done text) else traps TextLimit here n answers done).stop
+          (if b then set_memory m (next value) n answers (printed done text) else traps TextLimit here n answers done).done
+      printing_way n answers done le value text m before left true e =
+          went code _ _ _ _ (e ∙ goes (value ∷ stack) (machine.with_memory m (at s place (onto words stack) n answers (printed done text))) (omega (arith, fits)))
+          ((d value).by n answers _ le)
+      printing_way n answers done le value text m before left false e = stopped code _ _ _
+          (e ∙ ap (λ p. Stopped (Trapped TextLimit p.unit p.line) (at s place stack n answers done)) told)
+
+      way : (n : ℕ) (answers : List Answer) (done : Done) → n ≤ most → (before : Done) (left : ℕ) (r : LibraryDone)
+          → one_step code (at s place (onto words stack) left answers before) ≡ machine.library_done code r stack (at s place (onto words stack) n answers done)
+          → Stops code (at s place (onto words stack) left answers before)
+          (library_done r here next n answers done).stop (library_done r here next n answers done).done
+      way n answers done le before left (Gives value text m) e = printing_way n answers done le value text m before left (fits_text done text) e
+      way n answers done le before left (Fails cause) e = stopped code _ _ _
+          (e ∙ ap (λ p. Stopped (Trapped cause p.unit p.line) (at s place stack n answers done)) told)
+      way n answers done le before left (Exits status) e = stopped code _ _ _ e
+
+      turn : (n : ℕ) (answers : List Answer) (done : Done) → n ≤ most
+          → Stops code (at s place (onto words stack) n answers done)
+          (library_call call words here next n answers done).stop (library_call call words here next n answers done).done
+      turn zero answers done le =
+          stopped code _ _ Paused (stepped code s (instr.Library call (length words)) place (onto words stack) zero answers done is
+          ∙ many words stack (λ ws rest. ticking zero (at s place (onto words stack) zero answers done)
+          (λ c. machine.library_done code (library_does call ws c.done.memory) rest c)))
+      turn (suc n) answers done le =
+          way n answers (with_ticks done) (omega (arith, le)) done (suc n) (library_does call words done.memory)
+          (stepped code s (instr.Library call (length words)) place (onto words stack) (suc n) answers done is
+          ∙ many words stack (λ ws rest. ticking (suc n) (at s place (onto words stack) (suc n) answers done)
+          (λ c. machine.library_done code (library_does call ws c.done.memory) rest c)))
+
+  -- the second tick of a call of MPI, and further ones there
+  pub does_second : (call : MpiCall) (words : List ℕ) (place : ℕ) (stack : List ℕ) (most : ℕ) (here : Here) (next : ℕ → Rest)
+      → slice_get code.instrs place ≡ Some (instr.Mpi call (length words) true) → Told code place here → length stack < operand_limit
+      → ((x : ℕ) → Does code s (place + 1) (x ∷ stack) most (next x)) → Does code s place (onto words stack) most (mpi_tick true call words here next)
+  unfolding act
+  does_second call words place stack most here next is told fits d = record { by = turn }
+    where
+      step : (n : ℕ) (answers : List Answer) (done : Done) → one_step code (at s place (onto words stack) n answers done)
+          ≡ machine_tick code n answers (call_of call words true) stack (at s place (onto words stack) n answers done)
+      step n answers done =
+          stepped code s (instr.Mpi call (length words) true) place (onto words stack) n answers done is
+          ∙ many words stack (λ ws rest. machine_tick code n answers (call_of call ws true) rest (at s place (onto words stack) n answers done))
+
+      turn : (n : ℕ) (answers : List Answer) (done : Done) → n ≤ most
+          → Stops code (at s place (onto words stack) n answers done)
+          (mpi_tick true call words here next n answers done).stop (mpi_tick true call words here next n answers done).done
+      turn zero answers done le = stopped code _ _ _ (step zero answers done)
+      turn (suc n) [] done le = stopped code _ _ _ (step (suc n) [] done)
+      turn (suc n) (Half ∷ answers) done le =
+          went code _ _ _ _ (step (suc n) (Half ∷ answers) done) (turn n answers (asked done (call_of call words true)) (omega (arith, le)))
+      turn (suc n) (Value result writes ∷ answers) done le =
+          let asked_done : Done = asked done (call_of call words true) in
+          went code _ _ _ _ (step (suc n) (Value result writes ∷ answers) done
+          ∙ ap (λ (b : Bool). if b then Went (at s (place + 1) (word_of result ∷ stack) n answers (record asked_done { memory = written_all done.memory writes })) else Stuck)
+          (le-leb (suc (length stack)) operand_limit fits))
+          ((d (word_of result)).by n answers _ (omega (arith, le)))
+      turn (suc n) (Trap cause ∷ answers) done le = stopped code _ _ _ (step (suc n) (Trap cause ∷ answers) done
+          ∙ ap (λ p. Stopped (Trapped cause p.unit p.line) (at s place stack n answers (asked done (call_of call words true)))) told)
+      turn (suc n) (End status ∷ answers) done le = stopped code _ _ _ (step (suc n) (End status ∷ answers) done)
+
+  pub does_mpi : (call : MpiCall) (words : List ℕ) (place : ℕ) (stack : List ℕ) (most : ℕ) (here : Here) (next : ℕ → Rest)
+      → slice_get code.instrs place ≡ Some (instr.Mpi call (length words) false) → Told code place here
+      → slice_get code.instrs (place + 1) ≡ Some (instr.Mpi call (length words) true) → Told code (place + 1) here → length stack < operand_limit
+      → ((x : ℕ) → Does code s (place + 2) (x ∷ stack) most (next x)) → Does code s place (onto words stack) most (mpi_call call words here next)
+  unfolding act
+  does_mpi call words place stack most here next is told then_is then_told fits d = record { by = turn }
+    where
+      step : (n : ℕ) (answers : List Answer) (done : Done) → one_step code (at s place (onto words stack) n answers done)
+          ≡ machine_tick code n answers (call_of call words false) stack (at s place (onto words stack) n answers done)
+      step n answers done =
+          stepped code s (instr.Mpi call (length words) false) place (onto words stack) n answers done is
+          ∙ many words stack (λ ws rest. machine_tick code n answers (call_of call ws false) rest (at s place (onto words stack) n answers done))
+
+      second : Does code s (place + 1) (onto words stack) most (mpi_tick true call words here next)
+      second =
+          let e : place + 2 ≡ place + 1 + 1 = omega arith in
+          does_second call words (place + 1) stack most here next then_is then_told fits
+          (λ x. subst (λ p. Does code s p (x ∷ stack) most (next x)) e (d x))
+
+      turn : (n : ℕ) (answers : List Answer) (done : Done) → n ≤ most
+          → Stops code (at s place (onto words stack) n answers done)
+          (mpi_call call words here next n answers done).stop (mpi_call call words here next n answers done).done
+      turn zero answers done le = stopped code _ _ _ (step zero answers done)
+      turn (suc n) [] done le = stopped code _ _ _ (step (suc n) [] done)
+      turn (suc n) (Half ∷ answers) done le =
+          went code _ _ _ _ (step (suc n) (Half ∷ answers) done) (second.by n answers (asked done (call_of call words false)) (omega (arith, le)))
+      turn (suc n) (Value result writes ∷ answers) done le =
+          let asked_done : Done = asked done (call_of call words false) in
+          went code _ _ _ _ (step (suc n) (Value result writes ∷ answers) done
+          ∙ ap (λ (b : Bool). if b then Went (at s (place + 2) (word_of result ∷ stack) n answers (record asked_done { memory = written_all done.memory writes })) else Stuck)
+          (le-leb (suc (length stack)) operand_limit fits))
+          ((d (word_of result)).by n answers _ (omega (arith, le)))
+      turn (suc n) (Trap cause ∷ answers) done le = stopped code _ _ _ (step (suc n) (Trap cause ∷ answers) done
+          ∙ ap (λ p. Stopped (Trapped cause p.unit p.line) (at s place stack n answers (asked done (call_of call words false)))) told)
+      turn (suc n) (End status ∷ answers) done le = stopped code _ _ _ (step (suc n) (End status ∷ answers) done)
+
+  -- ---- functions
+
+  -- a function is entered: its frame lies at the top of the data stack, and the call waits for it
+  abbrev pub inside : Function → ℕ → List ℕ → ℕ → Standing
+  inside function place stack top = record {
+    back = place + 1;
+    start = top;
+    finish = top + function.frame;
+    callers = record { back = s.back; start = s.start; finish = s.finish; operands = stack } ∷ s.callers;
+  }
+
+  pub does_call : (number : ℕ) (function : Function) (words : List ℕ) (place : ℕ) (stack : List ℕ) (most : ℕ) (here : Here) (body : ℕ → Rest)
+      → slice_get code.instrs place ≡ Some (instr.Call number (length words)) → slice_get code.functions number ≡ Some function
+      → Told code place here → length s.callers < call_limit
+      → ((less top : ℕ) → less < most → Does code (inside function place stack top) function.place [] less (body top))
+      → Does code s place (onto words stack) most (tick (with_memory (λ m.
+      if nat_le (stack_top m + function.frame) range_bytes
+      then set_memory (with_arguments function.parameters words (stack_top m) (with_frame m function.frame)) (body (stack_top m))
+      else traps DataStack here)))
+  unfolding act
+  does_call number function words place stack most here body is function_is told shallow d = record { by = turn }
+    where
+      way : (n : ℕ) (answers : List Answer) (done : Done) → n < most → (before : Done) (left : ℕ) (b : Bool)
+          → one_step code (at s place (onto words stack) left answers before) ≡ (if not b then machine.trapped code DataStack stack (at s place (onto words stack) n answers done)
+          else Went (at (inside function place stack (stack_top done.memory)) function.place [] n answers
+          (record done { memory = with_arguments function.parameters words (stack_top done.memory) (with_frame done.memory function.frame) })))
+          → Stops code (at s place (onto words stack) left answers before)
+          ((if b then set_memory (with_arguments function.parameters words (stack_top done.memory) (with_frame done.memory function.frame)) (body (stack_top done.memory))
+          else traps DataStack here) n answers done).stop
+          ((if b then set_memory (with_arguments function.parameters words (stack_top done.memory) (with_frame done.memory function.frame)) (body (stack_top done.memory))
+          else traps DataStack here) n answers done).done
+      way n answers done lt before left true e = went code _ _ _ _ e ((d n (stack_top done.memory) lt).by n answers _ (omega arith))
+      way n answers done lt before left false e = stopped code _ _ _
+          (e ∙ ap (λ p. Stopped (Trapped DataStack p.unit p.line) (at s place stack n answers done)) told)
+
+      step : (n : ℕ) (answers : List Answer) (done : Done) → one_step code (at s place (onto words stack) n answers done)
+          ≡ ticking n (at s place (onto words stack) n answers done) (entered code (Some function) words stack)
+      step n answers done =
+          stepped code s (instr.Call number (length words)) place (onto words stack) n answers done is
+          ∙ many words stack (λ ws rest. ticking n (at s place (onto words stack) n answers done) (entered code (slice_get code.functions number) ws rest))
+          ∙ ap (λ f. ticking n (at s place (onto words stack) n answers done) (entered code f words stack)) function_is
+
+      turn : (n : ℕ) (answers : List Answer) (done : Done) → n ≤ most
+          → Stops code (at s place (onto words stack) n answers done) (tick (with_memory (λ m.
+          if nat_le (stack_top m + function.frame) range_bytes
+          then set_memory (with_arguments function.parameters words (stack_top m) (with_frame m function.frame)) (body (stack_top m))
+          else traps DataStack here)) n answers done).stop (tick (with_memory (λ m.
+          if nat_le (stack_top m + function.frame) range_bytes
+          then set_memory (with_arguments function.parameters words (stack_top m) (with_frame m function.frame)) (body (stack_top m))
+          else traps DataStack here)) n answers done).done
+      turn zero answers done le = stopped code _ _ Paused (step zero answers done)
+      turn (suc n) answers done le =
+          let top : ℕ = stack_top done.memory in
+          let deep : nat_le call_limit (length s.callers) ≡ false = lt-leb call_limit (length s.callers) shallow in
+          way n answers (with_ticks done) (omega (arith, le)) done (suc n) (nat_le (top + function.frame) range_bytes)
+          (step (suc n) answers done
+          ∙ ap (λ (b : Bool). if b then machine.trapped code CallDepth stack (at s place (onto words stack) n answers (with_ticks done))
+          else (if nat_lt range_bytes (top + function.frame) then machine.trapped code DataStack stack (at s place (onto words stack) n answers (with_ticks done))
+          else Went (at (inside function place stack top) function.place [] n answers
+          (record (with_ticks done) { memory = with_arguments function.parameters words top (with_frame done.memory function.frame) })))) deep
+          ∙ ap (λ (b : Bool). if b then machine.trapped code DataStack stack (at s place (onto words stack) n answers (with_ticks done))
+          else Went (at (inside function place stack top) function.place [] n answers
+          (record (with_ticks done) { memory = with_arguments function.parameters words top (with_frame done.memory function.frame) })))
+          (too_far (top + function.frame) range_bytes))
+
+-- `main` returns: the rank ends
+pub does_return : (code : Code) (s : Standing) (caller : Frame) (x place : ℕ) (stack : List ℕ) (most : ℕ)
+    → s.callers ≡ caller ∷ [] → slice_get code.instrs place ≡ Some instr.Return
+    → Does code s place (x ∷ stack) most (left_frame caller.finish ended x)
+unfolding act
+does_return code s caller x place stack most main is = record {
+  by = λ n answers done le. stopped code _ _ _ (stepped code s instr.Return place (x ∷ stack) n answers done is
+      ∙ ap (λ callers. machine.left_to x callers (at s place stack n answers done)) main);
+}
