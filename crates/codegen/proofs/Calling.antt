@@ -34,7 +34,7 @@ too_far_by : (a b : ℕ) → ((nat_le a b ≡ true) × (a ≤ b)) ⊎ ((nat_le a
 too_far_by a b (inl (e, le)) = lt-leb (suc b) a (omega (arith, le)) ∙ ap not (sym e)
 too_far_by a b (inr (e, lt)) = le-leb (suc b) a lt ∙ ap not (sym e)
 
-too_far : (a b : ℕ) → nat_lt b a ≡ not (nat_le a b)
+pub too_far : (a b : ℕ) → nat_lt b a ≡ not (nat_le a b)
 too_far a b = too_far_by a b (leb_tells a b)
 
 module _ (code : Code) (s : Standing) where

@@ -1,3 +1,4 @@
 pub mod Running
 pub mod Calling
 pub mod Spanning
+pub mod Wording
