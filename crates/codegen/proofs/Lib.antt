@@ -2,3 +2,4 @@ pub mod Running
 pub mod Calling
 pub mod Spanning
 pub mod Wording
+pub mod Stepping
