@@ -3,3 +3,5 @@ pub mod Calling
 pub mod Spanning
 pub mod Wording
 pub mod Stepping
+pub mod Valuing
+pub mod Measuring
