@@ -5,3 +5,4 @@ pub mod Wording
 pub mod Stepping
 pub mod Valuing
 pub mod Measuring
+pub mod Shaping

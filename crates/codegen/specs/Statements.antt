@@ -1,5 +1,5 @@
 -- The code of statements, functions and programs.
-use Rattle.std.specs.Prelude.{ℕ, ◌+◌, List, [], ◌∷◌, ◌++◌, length, map, Option, None, Some}
+use Rattle.std.specs.Prelude.{ℕ, ◌≡◌, ◌+◌, List, [], ◌∷◌, ◌++◌, length, map, Option, None, Some, get_or}
 use Rattle.rank_range.specs.declared.run.Segment.{Segment}
 use Rattle.c_types.specs.declared.expression.FullExpr.{FullExpr}
 use Rattle.c_types.specs.declared.statement.Stmt.{Stmt, fold-Stmt}
@@ -12,11 +12,12 @@ use Rattle.c_types.specs.declared.statement.Stored.TheVariants.{Number, Structur
 use Rattle.c_types.specs.declared.program.Program.{Program}
 use Rattle.c_types.specs.declared.program.Body.{Body}
 use Rattle.c_types.specs.declared.program.Function.{Function}
-use Rattle.c_types.specs.declared.program.Parameter.{Parameter}
+use Rattle.c_types.specs.declared.program.Main.{Main}
 use Rattle.vm_code.specs.declared.code.Function.{Function as CodeFunction}
-use Rattle.vm_code.specs.declared.code.Parameter.{Parameter as CodeParameter}
+use Rattle.vm_code.specs.declared.code.Code.{Code}
 use Rattle.vm_code.specs.declared.instr.Instr.{Instr}
-use Rattle.vm_code.specs.declared.instr.Instr.TheVariants.{Push, Pop, Local, Store as StoreAt, Copy, Zero, Jump, JumpIfZero, Tick, Return}
+use Rattle.vm_code.specs.declared.instr.Instr.TheVariants.{Push, Pop, Local, Store as StoreAt, Copy, Zero, Jump, JumpIfZero, Tick, Return, Call}
+use Rattle.c_model.specs.Statements.{parameters_of, parameter_count}
 use Rattle.codegen.specs.Layout.{Part, nothing, one, ◌then◌, expr_part}
 use Rattle.codegen.specs.Sizes.{expr_size, dropped_size, test_size, again_size, declared_size, all_declared_size, return_size}
 
@@ -157,34 +158,52 @@ stmt_step w (Stmt-F.Return line e) =
 unfoldable pub stmt_piece : Within → Stmt → Piece
 stmt_piece w = fold-Stmt Piece (stmt_step w)
 
--- the statements of a function, of which the last is followed by a return of 0
-abbrev pub body_part : (ℕ → ℕ) → Body → Part
-body_part object body =
-    in_order_part (map (stmt_piece (record { unit = body.unit; object = object })) body.stmts) (record { to_break = 0; to_continue = 0 })
-    then one (Push 0) then one Return
+-- the pieces of a function's statements
+abbrev pub pieces_of : (ℕ → ℕ) → Body → List Piece
+pieces_of object body = map (stmt_piece (record { unit = body.unit; object = object })) body.stmts
 
-abbrev pub body_size : Body → ℕ
-body_size body = sizes_of (map (stmt_piece (record { unit = body.unit; object = λ number. 0 })) body.stmts) + 2
+-- The statements of a function, behind which it returns 0. A `break` or `continue` that no loop holds leads there.
+abbrev pub end_targets : ℕ → Targets
+end_targets end = record { to_break = end; to_continue = end }
+
+abbrev pub body_part : (ℕ → ℕ) → Body → Part
+body_part object body = λ place.
+    (in_order_part (pieces_of object body) (end_targets (place + sizes_of (pieces_of object body))) then one (Push 0) then one Return) place
+
+abbrev pub body_size : (ℕ → ℕ) → Body → ℕ
+body_size object body = sizes_of (pieces_of object body) + 2
 
 abbrev pub function_part : (ℕ → ℕ) → Function → Part
 function_part object function = elim function.body [ None ↦ nothing | Some body ↦ body_part object body ]
 
-abbrev pub function_size : Function → ℕ
-function_size function = elim function.body [ None ↦ 0 | Some body ↦ body_size body ]
+abbrev pub function_size : (ℕ → ℕ) → Function → ℕ
+function_size object function = elim function.body [ None ↦ 0 | Some body ↦ body_size object body ]
 
 abbrev pub functions_part : (ℕ → ℕ) → List Function → Part
 functions_part object [] = nothing
 functions_part object (f ∷ fs) = function_part object f then functions_part object fs
 
 -- the functions as the code has them, where the first one begins at this place
-abbrev pub parameters_of : List Parameter → List CodeParameter
-parameters_of [] = []
-parameters_of (p ∷ ps) = record { offset = p.offset; kind = p.kind } ∷ parameters_of ps
-
 abbrev pub entry_at : ℕ → Option Body → CodeFunction
 entry_at place None = record { place = place; frame = 0; parameters = [] }
 entry_at place (Some body) = record { place = place; frame = body.frame; parameters = parameters_of body.parameters }
 
-abbrev pub entries_from : ℕ → List Function → List CodeFunction
-entries_from place [] = []
-entries_from place (f ∷ fs) = entry_at place f.body ∷ entries_from (place + function_size f) fs
+abbrev pub entries_from : (ℕ → ℕ) → ℕ → List Function → List CodeFunction
+entries_from object place [] = []
+entries_from object place (f ∷ fs) = entry_at place f.body ∷ entries_from object (place + function_size object f) fs
+
+-- where static objects stand among the globals: one without an offset stands where they begin
+abbrev pub offset_in : Segment → ℕ → ℕ
+offset_in segment number = get_or segment.objects number 0
+
+-- The code of a program: the call of `main`, and then the functions in their order.
+unfoldable pub program_part : Program → Segment → Main → Part
+program_part program segment main =
+    one (Call main.function (parameter_count program main.function)) then functions_part (offset_in segment) program.functions
+
+-- The code is laid out as the program's.
+pub record IsCodeOf (code : Code) (program : Program) (segment : Segment) (main : Main) : Type 0 where
+  pub instrs : code.instrs ≡ program_part program segment main 0
+  pub functions : code.functions ≡ entries_from (offset_in segment) 1 program.functions
+  pub unit_is : code.unit ≡ main.unit
+  pub line_is : code.line ≡ main.line
