@@ -6,3 +6,4 @@ pub mod Stepping
 pub mod Valuing
 pub mod Measuring
 pub mod Shaping
+pub mod Acting

@@ -65,6 +65,12 @@ abbrev pub all_declared_covered : List Declared → Bool
 all_declared_covered [] = true
 all_declared_covered (d ∷ ds) = stores_covered d.stores && all_declared_covered ds
 
+-- a `for` begins with declarators or with an expression
+abbrev pub begins_once : List Declared → Option FullExpr → Bool
+begins_once [] start = true
+begins_once (d ∷ ds) None = true
+begins_once (d ∷ ds) (Some e) = false
+
 abbrev pub true_if : Option Bool → Bool
 true_if None = true
 true_if (Some b) = b
@@ -74,10 +80,11 @@ stmt_covered_step (Stmt-F.Empty line) = true
 stmt_covered_step (Stmt-F.Express line e) = expr_covered e.expr
 stmt_covered_step (Stmt-F.Declare d) = stores_covered d.stores
 stmt_covered_step (Stmt-F.Block bs) = all_true bs
-stmt_covered_step (Stmt-F.If line e b otherwise) = expr_covered e.expr && b && true_if otherwise
+stmt_covered_step (Stmt-F.If line e b otherwise) = expr_covered e.expr && (b && true_if otherwise)
 stmt_covered_step (Stmt-F.While line e b) = expr_covered e.expr && b
 stmt_covered_step (Stmt-F.Do line b e) = expr_covered e.expr && b
-stmt_covered_step (Stmt-F.For line ds start test step b) = all_declared_covered ds && covered_if start && covered_if test && covered_if step && b
+stmt_covered_step (Stmt-F.For line ds start test step b) =
+    begins_once ds start && (all_declared_covered ds && (covered_if start && (covered_if test && (covered_if step && b))))
 stmt_covered_step (Stmt-F.Switch line e cases default b) = false
 stmt_covered_step (Stmt-F.Labelled label b) = b
 stmt_covered_step (Stmt-F.Break line) = true
