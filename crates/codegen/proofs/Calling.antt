@@ -156,18 +156,24 @@ module _ (code : Code) (s : Standing) where
     callers = record { back = s.back; start = s.start; finish = s.finish; operands = stack } ∷ s.callers;
   }
 
-  pub does_call : (number : ℕ) (function : Function) (words : List ℕ) (place : ℕ) (stack : List ℕ) (most : ℕ) (here : Here) (body : ℕ → Rest)
-      → slice_get code.instrs place ≡ Some (instr.Call number (length words)) → slice_get code.functions number ≡ Some function
-      → Told code place here → length s.callers < call_limit
-      → ((less top : ℕ) → less < most → Does code (inside function place stack top) function.place [] less (body top))
-      → Does code s place (onto words stack) most (tick (with_memory (λ m.
+  -- what entering a function does in a run
+  abbrev pub enters : Function → List ℕ → Here → (ℕ → Rest) → Rest
+  enters function words here body = tick (with_memory (λ m.
       if nat_le (stack_top m + function.frame) range_bytes
       then set_memory (with_arguments function.parameters words (stack_top m) (with_frame m function.frame)) (body (stack_top m))
-      else traps DataStack here)))
+      else traps DataStack here))
+
+  -- A call, from what was done before it. The function runs where its frame lies on top of what was there.
+  pub stops_call : (number : ℕ) (function : Function) (words : List ℕ) (place : ℕ) (stack : List ℕ) (here : Here) (body : ℕ → Rest)
+      → slice_get code.instrs place ≡ Some (instr.Call number (length words)) → slice_get code.functions number ≡ Some function
+      → Told code place here → length s.callers < call_limit → (n : ℕ) (answers : List Answer) (done : Done)
+      → ((less : ℕ) → less < n → Does code (inside function place stack (stack_top done.memory)) function.place [] less (body (stack_top done.memory)))
+      → Stops code (at s place (onto words stack) n answers done) (enters function words here body n answers done).stop (enters function words here body n answers done).done
   unfolding act
-  does_call number function words place stack most here body is function_is told shallow d = record { by = turn }
+  stops_call number function words place stack here body is function_is told shallow = turn
     where
-      way : (n : ℕ) (answers : List Answer) (done : Done) → n < most → (before : Done) (left : ℕ) (b : Bool)
+      way : (n : ℕ) (answers : List Answer) (done : Done) → Does code (inside function place stack (stack_top done.memory)) function.place [] n (body (stack_top done.memory))
+          → (before : Done) (left : ℕ) (b : Bool)
           → one_step code (at s place (onto words stack) left answers before) ≡ (if not b then machine.trapped code DataStack stack (at s place (onto words stack) n answers done)
           else Went (at (inside function place stack (stack_top done.memory)) function.place [] n answers
           (record done { memory = with_arguments function.parameters words (stack_top done.memory) (with_frame done.memory function.frame) })))
@@ -176,8 +182,8 @@ module _ (code : Code) (s : Standing) where
           else traps DataStack here) n answers done).stop
           ((if b then set_memory (with_arguments function.parameters words (stack_top done.memory) (with_frame done.memory function.frame)) (body (stack_top done.memory))
           else traps DataStack here) n answers done).done
-      way n answers done lt before left true e = went code _ _ _ _ e ((d n (stack_top done.memory) lt).by n answers _ (omega arith))
-      way n answers done lt before left false e = stopped code _ _ _
+      way n answers done d before left true e = went code _ _ _ _ e (d.by n answers _ (omega arith))
+      way n answers done d before left false e = stopped code _ _ _
           (e ∙ ap (λ p. Stopped (Trapped DataStack p.unit p.line) (at s place stack n answers done)) told)
 
       step : (n : ℕ) (answers : List Answer) (done : Done) → one_step code (at s place (onto words stack) n answers done)
@@ -187,19 +193,14 @@ module _ (code : Code) (s : Standing) where
           ∙ many words stack (λ ws rest. ticking n (at s place (onto words stack) n answers done) (entered code (slice_get code.functions number) ws rest))
           ∙ ap (λ f. ticking n (at s place (onto words stack) n answers done) (entered code f words stack)) function_is
 
-      turn : (n : ℕ) (answers : List Answer) (done : Done) → n ≤ most
-          → Stops code (at s place (onto words stack) n answers done) (tick (with_memory (λ m.
-          if nat_le (stack_top m + function.frame) range_bytes
-          then set_memory (with_arguments function.parameters words (stack_top m) (with_frame m function.frame)) (body (stack_top m))
-          else traps DataStack here)) n answers done).stop (tick (with_memory (λ m.
-          if nat_le (stack_top m + function.frame) range_bytes
-          then set_memory (with_arguments function.parameters words (stack_top m) (with_frame m function.frame)) (body (stack_top m))
-          else traps DataStack here)) n answers done).done
-      turn zero answers done le = stopped code _ _ Paused (step zero answers done)
-      turn (suc n) answers done le =
+      turn : (n : ℕ) (answers : List Answer) (done : Done)
+          → ((less : ℕ) → less < n → Does code (inside function place stack (stack_top done.memory)) function.place [] less (body (stack_top done.memory)))
+          → Stops code (at s place (onto words stack) n answers done) (enters function words here body n answers done).stop (enters function words here body n answers done).done
+      turn zero answers done d = stopped code _ _ Paused (step zero answers done)
+      turn (suc n) answers done d =
           let top : ℕ = stack_top done.memory in
           let deep : nat_le call_limit (length s.callers) ≡ false = lt-leb call_limit (length s.callers) shallow in
-          way n answers (with_ticks done) (omega (arith, le)) done (suc n) (nat_le (top + function.frame) range_bytes)
+          way n answers (with_ticks done) (d n (omega arith)) done (suc n) (nat_le (top + function.frame) range_bytes)
           (step (suc n) answers done
           ∙ ap (λ (b : Bool). if b then machine.trapped code CallDepth stack (at s place (onto words stack) n answers (with_ticks done))
           else (if nat_lt range_bytes (top + function.frame) then machine.trapped code DataStack stack (at s place (onto words stack) n answers (with_ticks done))

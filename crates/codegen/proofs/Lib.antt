@@ -7,3 +7,4 @@ pub mod Valuing
 pub mod Measuring
 pub mod Shaping
 pub mod Acting
+pub mod Meaning

@@ -96,7 +96,7 @@ abbrev pub onto : List ℕ → List ℕ → List ℕ
 onto [] stack = stack
 onto (w ∷ ws) stack = onto ws (w ∷ stack)
 
-onto_is : (words stack : List ℕ) → onto words stack ≡ reverse words ++ stack
+pub onto_is : (words stack : List ℕ) → onto words stack ≡ reverse words ++ stack
 onto_is [] stack = refl
 onto_is (w ∷ ws) stack =
     onto_is ws (w ∷ stack) ∙ sym (append_assoc (reverse ws) (w ∷ []) stack) ∙ ap (λ l. l ++ stack) (sym (reverse-append (w ∷ []) ws))
