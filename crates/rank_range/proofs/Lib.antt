@@ -5,3 +5,7 @@ pub mod KindLemmas
 pub mod OperatorLemmas
 pub mod LineLemmas
 pub mod PartLemmas
+pub mod AccessLemmas
+pub mod ChangeLemmas
+pub mod FitLemmas
+pub mod TextLemmas

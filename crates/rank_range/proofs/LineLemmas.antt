@@ -7,7 +7,7 @@ use Rattle.std.specs.List.{flat_map, AllByRecursion}
 use lib.Dec.{eqb}
 use Rattle.am_base.specs.declared.lines.Line.{Line}
 use Rattle.rank_range.specs.declared.run.Output.{Output}
-use Rattle.rank_range.specs.Output.{IsCutInto, IsLine, HasNoNewline, with_end, lines_behind, part_behind, AreTheCut, ArePrintedTogether, numbered, with_text}
+use Rattle.rank_range.specs.Output.{IsCutInto, IsLine, HasNoNewline, with_end, lines_behind, part_behind, AreTheCut, ArePrintedTogether, numbered}
 
 different : (a b : ℕ) → a ≢ b → eqb a b ≡ false
 different a b n = elim (eqb_tells a b) [ inl t ↦ absurd (n t.1) | inr t ↦ t.0 ]

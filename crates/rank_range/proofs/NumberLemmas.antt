@@ -11,7 +11,7 @@ use Rattle.rank_range.specs.declared.width.Width.{Width}
 use Rattle.rank_range.specs.declared.width.Width.TheVariants.{One, Two, Four, Eight}
 
 -- equal bytes make equal numbers
-same_bytes : (i n : ℕ) (xs ys : List ℕ) → ((j : ℕ) → j < i + n → slice_index xs j ≡ slice_index ys j)
+pub same_bytes : (i n : ℕ) (xs ys : List ℕ) → ((j : ℕ) → j < i + n → slice_index xs j ≡ slice_index ys j)
     → little_from i n xs ≡ little_from i n ys
 same_bytes i zero xs ys same = refl
 same_bytes i (suc n) xs ys same =

@@ -1,11 +1,10 @@
 -- Parts of a list of bytes, and bytes that are put into one.
-use Rattle.std.proofs.Common.{◌≡◌, ℕ, zero, suc, ◌+◌, ◌-◌, ◌*◌, ◌<◌, ◌≤◌, ◌⊎◌, ◌∙◌, inl, inr, List, [], ◌∷◌, ◌++◌, length, take, drop, get_or, slice_index, refl, sym, ap, subst, arith, length-append, append_assoc, length-drop, replicate}
-use Rattle.std.proofs.Math.Seq.{drop-append_seam, take-append_seam as take_seam}
-use Rattle.std.proofs.lemmas.List.{length-take-le, length-replicate, drop-drop, get_or-append_right, get_or_append_left, get_or-drop, get_or-take, ext_get_or, append-nil, take-append-drop, drop-take, take-take}
+use Rattle.std.proofs.Common.{◌≡◌, ℕ, ◌+◌, ◌-◌, ◌<◌, ◌≤◌, ◌⊎◌, ◌∙◌, inl, inr, List, [], ◌∷◌, ◌++◌, length, take, drop, get_or, slice_index, refl, sym, ap, arith, length-append, append_assoc, length-drop, replicate}
+use Rattle.std.proofs.lemmas.List.{length-take-le, length-replicate, drop-drop, get_or-append_right, get_or_append_left, get_or-drop, get_or-take, ext_get_or, take-append-drop, drop-take, take-take}
 use Rattle.byteorder.specs.Numbers.{little_from-take, length-bytes_low_first}
 use borrow.Rule.Slice.PartMut.{put_mid}
 use Rattle.std.proofs.lemmas.Bool.{cases_lt}
-use Rattle.byteorder.specs.Endian.{little_number, little_bytes, little_from}
+use Rattle.byteorder.specs.Endian.{little_number, little_bytes}
 use Rattle.rank_range.specs.Parts.{part, with_part, StayBeside}
 use Rattle.rank_range.specs.Numbers.{number_at, with_number}
 

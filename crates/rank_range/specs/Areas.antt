@@ -1,16 +1,17 @@
 -- A rank's memory as its program sees it: three areas as lists, and the live blocks of its heap. What a list doesn't hold
 -- isn't there. All of it is this profile's own.
-use Rattle.std.specs.Prelude.{ℕ, ◌≡◌, ◌≢◌, ◌+◌, ◌-◌, ◌<◌, ◌≤◌, ◌==◌, ◌&&◌, ◌↔◌, if◌then◌else◌, Bool, IsTrue, nat_lt, nat_le, Option, Some, None, option_map, List, [], ◌∷◌, ◌++◌, length, take, drop}
+use Rattle.std.specs.Prelude.{ℕ, ◌≡◌, ◌≢◌, ◌+◌, ◌-◌, ◌==◌, ◌&&◌, ◌↔◌, if◌then◌else◌, Bool, IsTrue, nat_lt, nat_le, Option, Some, None, option_map, option_and_then, List, [], ◌∷◌, ◌++◌, length, replicate, take, drop}
 use Rattle.std.specs.List.{AllByRecursion}
 use Rattle.byteorder.specs.Endian.{little_number, little_bytes}
 use Rattle.rank_range.specs.declared.heap.Block.{Block}
 use Rattle.rank_range.specs.Layout.{base_of, globals_start, heap_start, stack_start, range_bytes, Accessible, IsRange}
-use Rattle.rank_range.specs.Parts.{part, with_part}
+use Rattle.rank_range.specs.Parts.{part, with_part, StayBeside}
+use Rattle.rank_range.specs.Heap.{first_fit, rounded, with_block, without, is_live}
 use Rattle.rank_range.specs.Nodes.{blocks_of}
 
--- The rank's base, its globals, its heap, and its data stack below the top.
+-- The rank's number, its globals, its heap, and its data stack below the top.
 pub record Areas : Type 0 where
-  pub base : ℕ
+  pub rank : ℕ
   pub globals : List ℕ
   pub heap : List ℕ
   pub stack : List ℕ
@@ -29,13 +30,13 @@ is_between start end a = nat_le start a && nat_lt a end
 
 -- where an area begins
 abbrev pub globals_at : Areas → ℕ
-globals_at areas = areas.base + globals_start
+globals_at areas = base_of areas.rank + globals_start
 
 abbrev pub heap_at : Areas → ℕ
-heap_at areas = areas.base + heap_start
+heap_at areas = base_of areas.rank + heap_start
 
 abbrev pub stack_at : Areas → ℕ
-stack_at areas = areas.base + stack_start
+stack_at areas = base_of areas.rank + stack_start
 
 -- whether the address a lies in the area with these bytes from `start` on
 abbrev pub is_in : ℕ → List ℕ → ℕ → Bool
@@ -57,16 +58,20 @@ bytes_at areas a n = if nat_le n (length (bytes_from areas a)) then Some (take n
 unfoldable pub put_at : Areas → ℕ → List ℕ → Areas
 put_at areas a new =
     if is_in (globals_at areas) areas.globals a
-    then record { base = areas.base; globals = with_part areas.globals (a - globals_at areas) new; heap = areas.heap; stack = areas.stack }
+    then record { rank = areas.rank; globals = with_part areas.globals (a - globals_at areas) new; heap = areas.heap; stack = areas.stack }
     else (if is_in (heap_at areas) areas.heap a
-    then record { base = areas.base; globals = areas.globals; heap = with_part areas.heap (a - heap_at areas) new; stack = areas.stack }
+    then record { rank = areas.rank; globals = areas.globals; heap = with_part areas.heap (a - heap_at areas) new; stack = areas.stack }
     else (if is_in (stack_at areas) areas.stack a
-    then record { base = areas.base; globals = areas.globals; heap = areas.heap; stack = with_part areas.stack (a - stack_at areas) new }
+    then record { rank = areas.rank; globals = areas.globals; heap = areas.heap; stack = with_part areas.stack (a - stack_at areas) new }
     else areas))
 
 -- the same, where these bytes are all in one area
 unfoldable pub with_bytes_at : Areas → ℕ → List ℕ → Option Areas
 with_bytes_at areas a new = if nat_le (length new) (length (bytes_from areas a)) then Some (put_at areas a new) else None
+
+-- the areas with the n bytes from the address `from` on also from the address `to` on, as if by a buffer
+unfoldable pub copied_at : Areas → ℕ → ℕ → ℕ → Option Areas
+copied_at areas to from n = option_and_then (with_bytes_at areas to) (bytes_at areas from n)
 
 -- the number in the n bytes from the address a on, and the areas with the lowest n bytes of v there
 unfoldable pub number_of : Areas → ℕ → ℕ → Option ℕ
@@ -89,12 +94,33 @@ abbrev pub IsTextAt : Areas → ℕ → List ℕ → Type 0
 IsTextAt areas a text =
     (bytes_at areas a (length text + 1) ≡ Some (text ++ 0 ∷ [])) × AllByRecursion (λ b. b ≢ 0) text
 
+-- ---- the heap's calls
+
+-- What `malloc` answers, and the memory behind it: a block of zeros at the first fit, or 0 and nothing changed.
+unfoldable pub take_block : ℕ → Memory → ℕ × Memory
+take_block size memory =
+    if first_fit memory.areas.rank memory.blocks size == 0 then (0, memory)
+    else (
+      first_fit memory.areas.rank memory.blocks size,
+      record {
+        areas = put_at memory.areas (first_fit memory.areas.rank memory.blocks size) (replicate (rounded size) 0);
+        blocks = with_block (record { address = first_fit memory.areas.rank memory.blocks size; length = rounded size }) memory.blocks;
+      },
+    )
+
+-- the memory after `free`, where the address is that of a live block
+unfoldable pub give_block : ℕ → Memory → Option Memory
+give_block address memory =
+    if is_live address memory.blocks
+    then Some (record { areas = memory.areas; blocks = without address memory.blocks })
+    else None
+
 -- ---- the areas in a rank's bytes
 
 unfoldable pub areas_of : ℕ → ℕ → List ℕ → Areas
 areas_of rank top bytes =
     record {
-      base = base_of rank;
+      rank = rank;
       globals = part bytes globals_start (heap_start - globals_start);
       heap = part bytes heap_start (stack_start - heap_start);
       stack = part bytes stack_start (top - stack_start);
@@ -135,3 +161,10 @@ ArePut =
 -- The text at an address is the one that the relation tells.
 abbrev pub AreTexts : Type 0
 AreTexts = (areas : Areas) (a : ℕ) (text : List ℕ) → (text_at areas a ≡ Some text) ↔ IsTextAt areas a text
+
+-- The areas become these, where there are some: no byte before the globals changes, and no block.
+pub record Becomes (rank top : ℕ) (old new : List ℕ) (areas : Option Areas) : Type 0 where
+  pub areas_are : areas ≡ Some (areas_of rank top new)
+  pub blocks_are : blocks_of rank new ≡ blocks_of rank old
+  pub beside : StayBeside old new globals_start range_bytes
+  pub whole : length new ≡ length old

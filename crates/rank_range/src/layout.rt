@@ -2,6 +2,7 @@
 ghost use Rattle.std.specs.Prelude.{◌≡◌, ◌↔◌, ◌+◌, ◌-◌, ◌<◌, ◌≤◌, IsTrue, IfOk, OnOk, OnErr};
 ghost use Rattle.rank_range.specs.Layout.{base_of, AllIn, Accessible, range_bytes};
 ghost use Rattle.rank_range.specs.Numbers.{bytes_in};
+ghost use Rattle.rank_range.specs.Areas.{TellsAccessible, AreRead, ArePut};
 
 use crate::{BadAddress, Width};
 use am_base::RankId;
@@ -83,3 +84,11 @@ pub fn place_of(rank: RankId, top: u32, a: u64, width: Width) -> Result<usize, B
     }
     Ok((a - base(rank)) as usize)
 }
+
+/// Laws: the test of accessible bytes that definitions compute with tells just these, and what is read and put by areas is
+/// what stands in the rank's bytes and is put into them.
+pub fn areas_are_in_the_range()
+    ensures tells { TellsAccessible }
+    ensures read { AreRead }
+    ensures put { ArePut }
+{}

@@ -1,6 +1,5 @@
-use Rattle.std.proofs.Common.{ℕ, ◌≡◌, ◌+◌, ◌≤◌, length, slice_index, refl, sym, subst}
+use Rattle.std.proofs.Common.{◌≡◌, ◌+◌, ◌≤◌, length, slice_index, refl, sym, subst}
 use Rattle.rank_range.specs.declared.width.Width.{Width}
-use Rattle.rank_range.specs.declared.width.Width.TheVariants.{One, Two, Four, Eight}
 use Rattle.rank_range.specs.Numbers.{bytes_in, number_at}
 use Rattle.rank_range.proofs.NumberLemmas.{read_is, byte_is}
 use Rattle.rank_range.proofs.numbers.read_number.Goals as goal

@@ -1,7 +1,6 @@
-use Rattle.std.proofs.Common.{ℕ, ◌≡◌, ◌+◌, ◌-◌, ◌∙◌, refl, sym, subst, arith}
+use Rattle.std.proofs.Common.{◌≡◌, ◌+◌, ◌-◌, ◌∙◌, refl, sym, subst, arith}
 use borrow.Rule.Slice.PartMut.{put_mid}
 use Rattle.rank_range.specs.declared.width.Width.{Width}
-use Rattle.rank_range.specs.declared.width.Width.TheVariants.{One, Two, Four, Eight}
 use Rattle.rank_range.specs.Numbers.{bytes_in, with_number}
 use Rattle.rank_range.proofs.NumberLemmas.{written, whole_field}
 use Rattle.rank_range.proofs.numbers.write_number.Goals as goal

@@ -1,6 +1,6 @@
-use Rattle.std.proofs.Common.{subst, List, ℕ, length, ◌-◌}
+use Rattle.std.proofs.Common.{subst, List, ℕ, ◌-◌}
 use Rattle.rank_range.specs.Layout.{Accessible, base_of}
-use Rattle.rank_range.proofs.AreaLemmas.{always_marked, on_err}
+use Rattle.rank_range.proofs.AreaLemmas.{on_err}
 use Rattle.rank_range.proofs.PartLemmas.{no_copy}
 use Rattle.rank_range.proofs.flat.FlatMemMem.copy.Goals as goal
 
