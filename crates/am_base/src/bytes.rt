@@ -1,3 +1,5 @@
+//! Bytes as a list.
+
 ghost use Rattle.std.specs.Prelude.{◌≡◌, ◌↔◌, [], ◌∷◌, ◌++◌, length, IsTrue, IfOk, OnOk, OnErr};
 
 use std::alloc::{AllocError, Global};

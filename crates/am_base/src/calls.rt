@@ -1,3 +1,5 @@
+//! The calls of the library and of MPI, and the types of their declarations.
+
 ghost use Rattle.std.specs.Prelude.{◌≡◌};
 ghost use Rattle.am_base.specs.declared.calls.LibCall.{LibCall};
 ghost use Rattle.am_base.specs.declared.calls.MpiCall.{MpiCall};

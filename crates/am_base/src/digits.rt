@@ -1,3 +1,5 @@
+//! Decimal digits.
+
 ghost use Rattle.std.specs.Prelude.{◌≡◌, ◌++◌, OnOk, OnErr};
 ghost use Rattle.std.specs.Fmt.{decimal as decimal_text, signed_decimal as signed_decimal_text};
 

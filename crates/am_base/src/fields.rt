@@ -1,3 +1,5 @@
+//! Fields of whole numbers in bytes, the lowest byte first.
+
 ghost use Rattle.std.specs.Prelude.{◌≡◌, ◌↔◌, ◌+◌, ◌≤◌, ◌<◌, ◌^◌, ◌++◌, List, ℕ, length, slice_range, IsSome, IfSome, OnOk, OnErr};
 ghost use Rattle.std.specs.Int.{w16, w32, w64, to_le_bytes, from_le_bytes};
 ghost use Rattle.am_base.specs.Fields.{Takes, AreTakenBack};
@@ -70,7 +72,7 @@ pub fn puts_are_taken_back()
     ensures u64 { AreTakenBack w64 (2 ^ 64) }
 {}
 
-/// The `width` bytes from `at` on, where there are so many.
+/// The `width` bytes from `at` on, where there are that many.
 fn field_at(b: &[u8], at: usize, width: usize) -> Option<&[u8]>
     ensures enough { IsSome result ↔ (at + width ≤ length b.now) }
     ensures value { IfSome result (λ field. field.now ≡ slice_range b.now at (at + width)) }

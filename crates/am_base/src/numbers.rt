@@ -1,3 +1,5 @@
+//! The numbers of ranks, processors and packets.
+
 /// A rank's number, from 0.
 #[derive(Clone, Copy, Debug, PartialEq, Eq, Hash, PartialOrd, Ord)]
 pub struct RankId(pub u16);

@@ -1,3 +1,5 @@
+//! How a rank's line is released.
+
 ghost use Rattle.std.specs.Prelude.{◌≡◌, ◌++◌, OnOk};
 ghost use Rattle.am_base.specs.Released.{released_line};
 

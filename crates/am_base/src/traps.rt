@@ -1,3 +1,5 @@
+//! The causes of traps.
+
 ghost use Rattle.std.specs.Prelude.{◌≡◌, ◌≢◌, MatchOption};
 ghost use Rattle.am_base.specs.declared.traps.TrapCause.{TrapCause};
 ghost use Rattle.am_base.specs.Traps.{trap_text, trap_number};

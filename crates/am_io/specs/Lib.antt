@@ -3,3 +3,4 @@ pub mod Contents
 pub mod Pieces
 pub mod Memory
 pub mod Listed
+pub mod Host

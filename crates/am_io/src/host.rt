@@ -186,25 +186,26 @@ impl<P: Print> Sink for OutSink<'_, P> {
 
 /// A file of the host, which the first put makes, and in whose place nothing is left of an older one.
 #[derive(Drop)]
-pub struct FileSink<'a, R: std::rt::Files, N> {
+pub struct FileSink<'a, R: std::rt::Files, N: AsPath> {
     rt: &'a R,
     name: N,
     file: Option<R::File>,
     faults: u64,
 }
 
-impl<'a, R: std::rt::Files, N> Model for FileSink<'a, R, N> {
-    ghost use Rattle.std.specs.Prelude.{ℕ};
+impl<'a, R: std::rt::Files, N: AsPath> Model for FileSink<'a, R, N> {
+    ghost use Rattle.am_io.specs.Host.{FileSinkState};
 
-    ghost Value = { ℕ };
+    ghost Value = { FileSinkState };
 
-    ghost view = { λ s. s.faults };
+    ghost view = { λ s. record { name = N.path_text s.name; faults = s.faults } };
 }
 
 impl<'a, R: std::rt::Files, N: AsPath> FileSink<'a, R, N> {
     /// The name is a `&str`, or a `String` that the sink then owns.
     pub fn new(rt: &'a R, name: N) -> FileSink<'a, R, N>
-        ensures { result ≡ 0 }
+        ensures named { result.name ≡ N.path_text name }
+        ensures none_failed { result.faults ≡ 0 }
     {
         FileSink {
             rt,
@@ -216,7 +217,7 @@ impl<'a, R: std::rt::Files, N: AsPath> FileSink<'a, R, N> {
 
     /// How many puts have failed.
     pub fn faults(&self) -> u64
-        ensures { result ≡ self.now }
+        ensures { result ≡ self.now.faults }
     {
         self.faults
     }
@@ -225,7 +226,7 @@ impl<'a, R: std::rt::Files, N: AsPath> FileSink<'a, R, N> {
 impl<R: std::rt::Files, N: AsPath> Sink for FileSink<'_, R, N> {
     ghost written = { λ _. None };
 
-    ghost faults = { λ s. s };
+    ghost faults = { λ s. s.faults };
 
     ghost spare = { λ _. 2 ^ 64 - 1 };
 

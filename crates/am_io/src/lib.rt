@@ -6,6 +6,7 @@ mod files;
 mod host;
 mod memory_files;
 mod memory_sinks;
+mod optional;
 mod saying;
 mod sinks;
 

@@ -3,23 +3,25 @@ use Rattle.std.proofs.Common.{ℕ, ◌≡◌, ◌+◌, ◌<◌, ◌≤◌, List,
 use Rattle.std.specs.List.{AllByRecursion}
 use Rattle.am_io.specs.Faults.{Rose}
 use Rattle.am_io.specs.Contents.{Held, Loads, bytes_of}
-use Rattle.c_model.specs.declared.tree.Program.{Program}
-use Rattle.c_model.specs.Need.{Pending, Fits, IsSimple, IsTooComplex, pending_limit, all_pending}
+use Rattle.thin_model.specs.declared.tree.Program.{Program}
+use Rattle.thin_model.specs.Need.{Pending, Fits, IsSimple, IsTooComplex, pending_limit, all_pending}
 use Rattle.run_words.specs.Words.{Asked, AskForRun}
-use Rattle.run_words.specs.Asks.{IsAccepted as IsAskedBy}
+use Rattle.run_words.specs.Asks.{IsAskedBy}
 use Rattle.run_words.specs.declared.command.Command.{Command}
 use Rattle.run_words.proofs.ReadingLemmas.{one_run}
 use Rattle.run_words.proofs.RankLemmas.{few-ranks, bounded-ticks}
 use Rattle.thin_compile.specs.Source.{IsSource, IsNotBuilt, IsTooComplexSource, IsCompiled}
 use Rattle.thin_compile.proofs.SourceLemmas.{one-source}
 use Rattle.thin_run.specs.Group.{setting}
-use Rattle.vm_code.specs.declared.compiled.Compiled.{Compiled}
+use Rattle.thin_code.specs.declared.compiled.Compiled.{Compiled}
 use Rattle.w_model.specs.declared.report.End.{End}
 use Rattle.w_model.specs.declared.report.End.TheVariants as end
 use Rattle.ampi.specs.declared.status.Status.{Status}
 use Rattle.ampi.specs.declared.status.Status.TheVariants.{Done, Usage, ReadFault, TooLong, Source, Deadlock, OutOfTicks, Trapped, WriteFault, NoMemory}
-use Rattle.ampi.specs.Runs.{Puts, GotWhole, PutsRun, PutsRunPart}
-use Rattle.ampi.specs.Answers.{Answers, Headline, ToldUsage, ToldOfFile, IsUsage, IsLoaded, IsTooLong, IsCause, IsRefusedSource, IsAccepted, IsTold, IsRunPartTold, setting_of, status_of, source_limit, source_text, usage_text, too_long_text, cannot_read_text}
+use Rattle.mpi_types.specs.declared.entries.Entry.{Entry}
+use Rattle.ampi.specs.Puts.{Piece, ToOut, Puts, GotWhole, GotPart}
+use Rattle.ampi.specs.Runs.{IsRun, PutsRun, PutsRunPart}
+use Rattle.ampi.specs.Answers.{Reads, Answers, Explains, Headline, ToldUsage, ToldOfFile, IsUsage, IsLoaded, IsTooLong, IsCause, IsRefusedSource, IsAccepted, IsBrokenOff, setting_of, status_of, source_limit, source_text, usage_text, too_long_text, cannot_read_text}
 use Rattle.ampi.specs.Yields.{Yields, EndsRun, EndsRunOrNoMemory, Comes}
 
 pub few-asked : (words : List (List ℕ)) (command : Command) → IsAskedBy words command → command.ranks ≤ 256
@@ -28,6 +30,15 @@ few-asked words command asked = omega (arith, asked.ranks, few-ranks words asked
 pub bounded-asked : (words : List (List ℕ)) (command : Command) → IsAskedBy words command → command.ticks ≤ 16000000
 bounded-asked words command asked = omega (arith, asked.ticks, bounded-ticks words asked.asked asked.asks)
 
+-- what the words ask for in place of what was read of them
+moved : (P : List ℕ → ℕ → ℕ → Type 0) {name file : List ℕ} (ranks ranks' ticks ticks' : ℕ) → name ≡ file → ranks ≡ ranks' → ticks ≡ ticks'
+    → P name ranks ticks → P file ranks' ticks'
+moved P {name} {file} ranks ranks' ticks ticks' named ranked ticked p =
+    let A : ℕ → Type 0 = λ n. P name n ticks in
+    let B : ℕ → Type 0 = λ n. P name ranks' n in
+    let C : List ℕ → Type 0 = λ n. P n ranks' ticks' in
+    subst C named (subst B ticked (subst A ranked p))
+
 pub accepted : (words : List (List ℕ)) (held : Held) (command : Command) (text : List ℕ) (compiled : Compiled)
     (asked : IsAskedBy words command) → IsLoaded held (string_bytes command.file) text → IsCompiled text compiled
     → IsAccepted words held asked.asked compiled.program
@@ -35,68 +46,79 @@ accepted words held command text compiled asked loaded is =
     let P : List ℕ → Type 0 = λ name. IsLoaded held name text in
     record { asks = asked.asks; text = text; loaded = subst P asked.file loaded; source = is.source; simple = is.simple }
 
--- a run was put, with this end
-record PutsHeadline (words : List (List ℕ)) (held : Held) (p : Puts) (e : End) : Type 0 where
-  out : List ℕ
-  journal : List ℕ
-  headline : Headline words held e out journal
-  got : GotWhole p out journal
+-- a run tells this, with this end
+headline-of : (words : List (List ℕ)) (held : Held) (command : Command) (text : List ℕ) (compiled : Compiled) (pieces : List Piece) (e : End)
+    (asked : IsAskedBy words command) → IsLoaded held (string_bytes command.file) text → IsCompiled text compiled → (history : List Entry)
+    → IsRun asked.asked.file (setting_of asked.asked compiled.program) history pieces e → Headline words held e pieces
+headline-of words held command text compiled pieces e asked loaded is history run = record {
+  asked = asked.asked;
+  program = compiled.program;
+  history = history;
+  accepted = accepted words held command text compiled asked loaded is;
+  cut_and_marked = run.cut_and_marked;
+  allowed = run.allowed;
+  ended = run.ended;
+  texts = run.texts;
+  in_order = run.in_order;
+  status = sym run.status;
+}
 
-headline-put : (words : List (List ℕ)) (held : Held) (command : Command) (text : List ℕ) (compiled : Compiled) (p : Puts) (e : End)
-    → IsAskedBy words command → IsLoaded held (string_bytes command.file) text → IsCompiled text compiled
-    → PutsRun (string_bytes command.file) (setting compiled.program command.ranks command.ticks) p e → PutsHeadline words held p e
-headline-put words held command text compiled p e asked loaded is put =
-    let P : ℕ → Type 0 = λ n. PutsRun (string_bytes command.file) (setting compiled.program n command.ticks) p e in
-    let Q : ℕ → Type 0 = λ n. PutsRun (string_bytes command.file) (setting compiled.program asked.asked.ranks n) p e in
-    let R : List ℕ → Type 0 = λ file. PutsRun file (setting_of asked.asked compiled.program) p e in
-    let here = subst R asked.file (subst Q asked.ticks (subst P asked.ranks put)) in
-    record {
-      out = here.out;
-      journal = here.journal;
-      got = here.got;
-      headline = record {
+explains-end : (words : List (List ℕ)) (r : Reads) (pieces : List Piece) (e : End) → Headline words r.held e pieces
+    → Explains words r (status_of e) pieces
+explains-end words r pieces end.Done headline = headline
+explains-end words r pieces end.Deadlock headline = headline
+explains-end words r pieces end.OutOfTicks headline = headline
+explains-end words r pieces (end.Trapped rank) headline = headline
+
+-- an answer that is told, whole and in part
+pub told-whole : (words : List (List ℕ)) (r : Reads) (p : Puts) (status : Status) (pieces : List Piece) → Explains words r status pieces
+    → GotWhole p pieces → Answers words r p status
+told-whole words r p Done pieces explains got = record { pieces = pieces; explains = explains; got = got }
+told-whole words r p Deadlock pieces explains got = record { pieces = pieces; explains = explains; got = got }
+told-whole words r p OutOfTicks pieces explains got = record { pieces = pieces; explains = explains; got = got }
+told-whole words r p (Trapped rank) pieces explains got = record { pieces = pieces; explains = explains; got = got }
+told-whole words r p Usage pieces explains got = record { pieces = pieces; explains = explains; got = got }
+told-whole words r p (ReadFault file) pieces explains got = record { pieces = pieces; explains = explains; got = got }
+told-whole words r p (TooLong file) pieces explains got = record { pieces = pieces; explains = explains; got = got }
+told-whole words r p (Source file line cause) pieces explains got = record { pieces = pieces; explains = explains; got = got }
+told-whole words r p WriteFault pieces explains got = absurd explains
+told-whole words r p NoMemory pieces explains got = absurd explains
+
+pub part-of-told : (words : List (List ℕ)) (r : Reads) (p : Puts) (status : Status) (pieces : List Piece) → Explains words r status pieces
+    → GotPart p pieces → IsBrokenOff words r p
+part-of-told words r p status pieces explains got = inl (record { status = status; pieces = pieces; explains = explains; got = got })
+
+pub answers-run : (words : List (List ℕ)) (r : Reads) (command : Command) (text : List ℕ) (compiled : Compiled) (p : Puts) (e : End)
+    (status : Status) → status ≡ status_of e → IsAskedBy words command → IsLoaded r.held (string_bytes command.file) text → IsCompiled text compiled
+    → PutsRun (string_bytes command.file) (setting compiled.program command.ranks command.ticks) p e → Answers words r p status
+answers-run words r command text compiled p e status status_is asked loaded is put =
+    let P : Status → Type 0 = λ s. Answers words r p s in
+    let Q : List ℕ → ℕ → ℕ → Type 0 = λ file n m. PutsRun file (setting compiled.program n m) p e in
+    let here = moved Q command.ranks asked.asked.ranks command.ticks asked.asked.ticks asked.file asked.ranks asked.ticks put in
+    let headline = headline-of words r.held command text compiled here.pieces e asked loaded is here.history here.run in
+    subst P (sym status_is) (told-whole words r p (status_of e) here.pieces (explains-end words r here.pieces e headline) here.got)
+
+pub part-told : (words : List (List ℕ)) (r : Reads) (command : Command) (text : List ℕ) (compiled : Compiled) (p : Puts)
+    → IsAskedBy words command → IsLoaded r.held (string_bytes command.file) text → IsCompiled text compiled
+    → PutsRunPart (string_bytes command.file) (setting compiled.program command.ranks command.ticks) p → IsBrokenOff words r p
+part-told words r command text compiled p asked loaded is put =
+    let Q : List ℕ → ℕ → ℕ → Type 0 = λ file n m. PutsRunPart file (setting compiled.program n m) p in
+    elim (moved Q command.ranks asked.asked.ranks command.ticks asked.asked.ticks asked.file asked.ranks asked.ticks put) [
+      | inl header ↦ inr (record {
         asked = asked.asked;
         program = compiled.program;
-        history = here.history;
-        accepted = accepted words held command text compiled asked loaded is;
-        cut_and_marked = here.run.cut_and_marked;
-        allowed = here.run.allowed;
-        ended = here.run.ended;
-        texts = here.run.texts;
-        status = sym here.run.status;
-      };
-    }
-
-told-of-end : (words : List (List ℕ)) (held : Held) (p : Puts) (e : End) → PutsHeadline words held p e → Answers words held p (status_of e)
-told-of-end words held p end.Done put = record { out = put.out; journal = put.journal; explains = put.headline; got = put.got }
-told-of-end words held p end.Deadlock put = record { out = put.out; journal = put.journal; explains = put.headline; got = put.got }
-told-of-end words held p end.OutOfTicks put = record { out = put.out; journal = put.journal; explains = put.headline; got = put.got }
-told-of-end words held p (end.Trapped rank) put = record { out = put.out; journal = put.journal; explains = put.headline; got = put.got }
-
-pub answers-run : (words : List (List ℕ)) (held : Held) (command : Command) (text : List ℕ) (compiled : Compiled) (p : Puts) (e : End)
-    (status : Status) → status ≡ status_of e → IsAskedBy words command → IsLoaded held (string_bytes command.file) text → IsCompiled text compiled
-    → PutsRun (string_bytes command.file) (setting compiled.program command.ranks command.ticks) p e → Answers words held p status
-answers-run words held command text compiled p e status status_is asked loaded is put =
-    let P : Status → Type 0 = λ s. Answers words held p s in
-    subst P (sym status_is) (told-of-end words held p e (headline-put words held command text compiled p e asked loaded is put))
-
-pub part-told : (words : List (List ℕ)) (held : Held) (command : Command) (text : List ℕ) (compiled : Compiled) (p : Puts)
-    → IsAskedBy words command → IsLoaded held (string_bytes command.file) text → IsCompiled text compiled
-    → PutsRunPart (string_bytes command.file) (setting compiled.program command.ranks command.ticks) p → IsRunPartTold words held p
-part-told words held command text compiled p asked loaded is put =
-    let P : ℕ → Type 0 = λ n. PutsRunPart (string_bytes command.file) (setting compiled.program n command.ticks) p in
-    let Q : ℕ → Type 0 = λ n. PutsRunPart (string_bytes command.file) (setting compiled.program asked.asked.ranks n) p in
-    let R : List ℕ → Type 0 = λ file. PutsRunPart file (setting_of asked.asked compiled.program) p in
-    record {
-      asked = asked.asked;
-      program = compiled.program;
-      accepted = accepted words held command text compiled asked loaded is;
-      got = subst R asked.file (subst Q asked.ticks (subst P asked.ranks put));
-    }
+        accepted = accepted words r.held command text compiled asked loaded is;
+        got = header;
+      })
+      | inr run ↦
+          let headline = headline-of words r.held command text compiled run.pieces run.end asked loaded is run.history run.run in
+          part-of-told words r p (status_of run.end) run.pieces (explains-end words r run.pieces run.end headline) run.got
+    ]
 
 pub told-source : (words : List (List ℕ)) (held : Held) (command : Command) (text : List ℕ) (line cause : ℕ)
     → IsAskedBy words command → IsLoaded held (string_bytes command.file) text → IsCause text line cause
-    → ToldOfFile words 0 (IsRefusedSource held line cause) (source_text line cause) (source_text line cause (string_bytes command.file)) []
+    → ToldOfFile words 0 (IsRefusedSource held line cause) (source_text line cause)
+    (ToOut (source_text line cause (string_bytes command.file)) ∷ [])
 told-source words held command text line cause asked loaded because =
     let P : List ℕ → Type 0 = λ name. IsLoaded held name text in
     record {
@@ -104,13 +126,13 @@ told-source words held command text line cause asked loaded because =
       asks = asked.asks;
       first = refl;
       because = record { text = text; loaded = subst P asked.file loaded; because = because };
-      texts = (ap (source_text line cause) asked.file, refl);
+      text_is = ap (λ name. ToOut (source_text line cause name) ∷ []) asked.file;
     }
 
 pub told-too-long : (words : List (List ℕ)) (held : Held) (command : Command) (text : List ℕ)
     → IsAskedBy words command → Loads held (string_bytes command.file) source_limit text → length text ≤ source_limit + 1
     → source_limit < length text
-    → ToldOfFile words 0 (IsTooLong held) too_long_text (too_long_text (string_bytes command.file)) []
+    → ToldOfFile words 0 (IsTooLong held) too_long_text (ToOut (too_long_text (string_bytes command.file)) ∷ [])
 told-too-long words held command text asked loads within past =
     let P : List ℕ → Type 0 = λ name. Loads held name source_limit text in
     record {
@@ -118,21 +140,21 @@ told-too-long words held command text asked loads within past =
       asks = asked.asks;
       first = refl;
       because = record { text = text; loads = subst P asked.file loads; past = omega arith };
-      texts = (ap too_long_text asked.file, refl);
+      text_is = ap (λ name. ToOut (too_long_text name) ∷ []) asked.file;
     }
 
-pub told-cannot-read : (words : List (List ℕ)) (held : Held) (command : Command) → IsAskedBy words command
-    → ToldOfFile words 0 (λ name. Unit {0}) cannot_read_text (cannot_read_text (string_bytes command.file)) []
-told-cannot-read words held command asked = record {
+pub told-cannot-read : (words : List (List ℕ)) (before now : ℕ) (command : Command) → IsAskedBy words command → Rose before now
+    → ToldOfFile words 0 (λ name. Rose before now) cannot_read_text (ToOut (cannot_read_text (string_bytes command.file)) ∷ [])
+told-cannot-read words before now command asked rose = record {
   asked = asked.asked;
   asks = asked.asks;
   first = refl;
-  because = tt;
-  texts = (ap cannot_read_text asked.file, refl);
+  because = rose;
+  text_is = ap (λ name. ToOut (cannot_read_text name) ∷ []) asked.file;
 }
 
-pub told-usage : (words : List (List ℕ)) → IsUsage words → ToldUsage words usage_text []
-told-usage words refused = record { refused = refused; texts = (refl, refl) }
+pub told-usage : (words : List (List ℕ)) → IsUsage words → ToldUsage words (ToOut usage_text ∷ [])
+told-usage words refused = record { refused = refused; text_is = refl }
 
 -- ---- which answer comes
 
@@ -161,24 +183,25 @@ Tells words held (Source file line cause) = FileTold words file (IsRefusedSource
 Tells words held WriteFault = Unit {0}
 Tells words held NoMemory = Unit {0}
 
-run-told : (words : List (List ℕ)) (held : Held) (e : End) (out journal : List ℕ) → Headline words held e out journal → RunTold words held
-run-told words held e out journal h = record { asked = h.asked; program = h.program; accepted = h.accepted }
+run-told : (words : List (List ℕ)) (held : Held) (e : End) (pieces : List Piece) → Headline words held e pieces → RunTold words held
+run-told words held e pieces h = record { asked = h.asked; program = h.program; accepted = h.accepted }
 
-file-told : (words : List (List ℕ)) (file : ℕ) (reason : List ℕ → Type 0) (text : List ℕ → List ℕ) (out journal : List ℕ)
-    → ToldOfFile words file reason text out journal → FileTold words file reason
-file-told words file reason text out journal t = record { asked = t.asked; asks = t.asks; first = t.first; because = t.because }
+file-told : (words : List (List ℕ)) (file : ℕ) (reason : List ℕ → Type 0) (text : List ℕ → List ℕ) (pieces : List Piece)
+    → ToldOfFile words file reason text pieces → FileTold words file reason
+file-told words file reason text pieces t = record { asked = t.asked; asks = t.asks; first = t.first; because = t.because }
 
-tells : (words : List (List ℕ)) (held : Held) (p : Puts) (status : Status) → Answers words held p status → Tells words held status
-tells words held p Done told = run-told words held end.Done told.out told.journal told.explains
-tells words held p Deadlock told = run-told words held end.Deadlock told.out told.journal told.explains
-tells words held p OutOfTicks told = run-told words held end.OutOfTicks told.out told.journal told.explains
-tells words held p (Trapped rank) told = run-told words held (end.Trapped (record { 0 = rank })) told.out told.journal told.explains
-tells words held p Usage told = told.explains.refused
-tells words held p (ReadFault file) told = file-told words file _ cannot_read_text told.out told.journal told.explains
-tells words held p (TooLong file) told = file-told words file _ too_long_text told.out told.journal told.explains
-tells words held p (Source file line cause) told = file-told words file _ (source_text line cause) told.out told.journal told.explains
-tells words held p WriteFault told = tt
-tells words held p NoMemory told = tt
+tells : (words : List (List ℕ)) (r : Reads) (p : Puts) (status : Status) → Answers words r p status → Tells words r.held status
+tells words r p Done told = run-told words r.held end.Done told.pieces told.explains
+tells words r p Deadlock told = run-told words r.held end.Deadlock told.pieces told.explains
+tells words r p OutOfTicks told = run-told words r.held end.OutOfTicks told.pieces told.explains
+tells words r p (Trapped rank) told = run-told words r.held (end.Trapped (record { 0 = rank })) told.pieces told.explains
+tells words r p Usage told = told.explains.refused
+tells words r p (ReadFault file) told =
+    record { asked = told.explains.asked; asks = told.explains.asks; first = told.explains.first; because = tt }
+tells words r p (TooLong file) told = file-told words file _ too_long_text told.pieces told.explains
+tells words r p (Source file line cause) told = file-told words file _ (source_text line cause) told.pieces told.explains
+tells words r p WriteFault told = tt
+tells words r p NoMemory told = tt
 
 usage-told : (words : List (List ℕ)) (held : Held) (status : Status) → Tells words held status → IsUsage words → Yields Usage status
 usage-told words held Done told usage = absurd (usage told.asked told.accepted.asks)
@@ -192,9 +215,9 @@ usage-told words held (Source file line cause) told usage = absurd (usage told.a
 usage-told words held WriteFault told usage = tt
 usage-told words held NoMemory told usage = tt
 
-pub usage-comes : (words : List (List ℕ)) (held : Held) (p : Puts) (status : Status) → Answers words held p status
+pub usage-comes : (words : List (List ℕ)) (r : Reads) (p : Puts) (status : Status) → Answers words r p status
     → IsUsage words → Yields Usage status
-usage-comes words held p status told usage = usage-told words held status (tells words held p status told) usage
+usage-comes words r p status told usage = usage-told words r.held status (tells words r p status told) usage
 
 -- the first full expression with too many pending values is one
 first-one : (before other : List Pending) (first second : Pending) (behind more : List Pending) → AllByRecursion Fits before
@@ -348,9 +371,9 @@ module _ (words : List (List ℕ)) (files : List (List ℕ × List ℕ)) where
   run-comes NoMemory asked program told no_fault here = tt
 
 -- what was put at an answer says which one comes
-pub comes : (words : List (List ℕ)) (held : Held) (p : Puts) (status : Status) → Answers words held p status
-    → ((file : ℕ) → status ≡ ReadFault file → ⊥) → Comes words held status
-comes words held p status told no_fault = record {
+pub comes : (words : List (List ℕ)) (r : Reads) (p : Puts) (status : Status) → Answers words r p status
+    → ((file : ℕ) → status ≡ ReadFault file → ⊥) → Comes words r.held status
+comes words r p status told no_fault = record {
   too_long = λ files asked is asks long. too-long-comes words files status asked (told-in files is) no_fault asks long;
   not_built = λ files asked text is asks loaded none.
       not-built-comes words files status asked text (told-in files is) no_fault asks loaded none;
@@ -359,8 +382,8 @@ comes words held p status told no_fault = record {
   run = λ files asked program is here. run-comes words files status asked program (told-in files is) no_fault here;
 }
   where
-    told-in : (files : List (List ℕ × List ℕ)) → held ≡ Some files → Tells words (Some files) status
-    told-in files is = let P : Held → Type 0 = λ h. Tells words h status in subst P is (tells words held p status told)
+    told-in : (files : List (List ℕ × List ℕ)) → r.held ≡ Some files → Tells words (Some files) status
+    told-in files is = let P : Held → Type 0 = λ h. Tells words h status in subst P is (tells words r p status told)
 
 -- refused words ask for no other answer
 pub nothing-comes : (words : List (List ℕ)) (held : Held) (status : Status) → IsUsage words → Comes words held status

@@ -1,23 +1,26 @@
--- What the puts of a run leave in the output and the journal.
-use Rattle.std.proofs.Common.{ℕ, ◌≡◌, List, [], ◌∷◌, ◌++◌, Option, None, Some, sym, ap, ◌∙◌, inl, inr, Result, Ok, Err, OnErr}
-use Rattle.std.proofs.lemmas.List.{append-nil}
+-- What pieces leave in the output and the journal, whole and in part.
+use Rattle.std.proofs.Common.{ℕ, zero, suc, ◌≡◌, ◌+◌, ◌-◌, ◌≤◌, List, [], ◌∷◌, ◌++◌, length, take, Option, None, Some, refl, sym, ap, ◌∙◌, append_assoc, arith, Result, Ok, Err, OnErr}
+use Rattle.std.proofs.lemmas.List.{append-nil, length-take}
 use Rattle.std.specs.Io.KnownBytes.{Appends, Keeps}
-use Rattle.am_io.specs.Pieces.{AppendsPart, Appends-append, AppendsPart-longer, AppendsPart-append, AppendsPart-whole, AppendsPart-nothing}
+use Rattle.am_io.specs.Pieces.{AppendsPart}
+use Rattle.am_io.proofs.PieceLemmas.{Appends-same, Appends-append, AppendsPart-nothing}
 use Rattle.am_io.specs.declared.saying.SayError.{SayError}
 use Rattle.am_io.specs.declared.saying.SayError.TheVariants.{Failed, Memory}
-use Rattle.w_model.specs.declared.entries.Entry.TheVariants.{Commit}
-use Rattle.w_model.specs.World.{Setting}
-use Rattle.w_model.specs.Cut.{released_lines}
-use Rattle.w_model.specs.Texts.{header_line}
-use Rattle.w_model.proofs.DrainLemmas.{marked-whole}
-use Rattle.thin_run.specs.declared.told.Told.{Told}
-use Rattle.thin_run.specs.Told.{TellsOfRun}
-use Rattle.ampi.specs.Runs.{Puts, puts, GotPart, IsRun, PutsRun, PutsRunPart}
+use Rattle.ampi.specs.Puts.{Piece, ToOut, ToJournal, out_of, journal_of, first_bytes, puts, GotWhole, GotPart}
 
 -- nothing was put
 pub appends-none : (o : Option (List ℕ)) → Appends o o []
 appends-none None = tt
 appends-none (Some xs) = sym (append-nil xs)
+
+pub kept-none : (old new : Option (List ℕ)) → Keeps old new → Appends old new []
+kept-none None new kept = tt
+kept-none (Some xs) None kept = kept
+kept-none (Some xs) (Some ys) kept = kept ∙ sym (append-nil xs)
+
+-- one piece, and no more behind it
+pub appends-one : (old new : Option (List ℕ)) (x : List ℕ) → Appends old new x → Appends old new (x ++ [])
+appends-one old new x whole = Appends-same old new x (x ++ []) (sym (append-nil x)) whole
 
 -- a piece that wasn't said whole was said in part
 pub said-part : {T A B : Type 0} (r : Result T SayError) (old new : Option (List ℕ)) (x : List ℕ) (e : SayError) → r ≡ Err e
@@ -29,76 +32,108 @@ pub on-err : {T E : Type 0} (r : Result T E) (P : Type 0) → P → OnErr r P
 on-err (Ok x) P p = tt
 on-err (Err e) P p = p
 
--- the texts that are told are those of a whole run
-is-run : (file : List ℕ) (s : Setting) (told : Told) (tells : TellsOfRun file s told)
-    → IsRun file s (tells.body ++ Commit ∷ []) (told.lines ++ told.report) (header_line s.ranks s.bound ++ told.journal) told.end
-is-run file s told tells =
-    let whole = marked-whole s tells.body tells.drained in
+take-past : (n : ℕ) (xs : List ℕ) → length xs ≤ n → take n xs ≡ xs
+take-past zero [] past = refl
+take-past zero (x ∷ xs) past = absurd (omega arith)
+take-past (suc n) [] past = refl
+take-past (suc n) (x ∷ xs) past = ap (λ ys. x ∷ ys) (take-past n xs (omega arith))
+
+take-taken : (n : ℕ) (xs : List ℕ) → take (length (take n xs)) xs ≡ take n xs
+take-taken zero xs = refl
+take-taken (suc n) [] = refl
+take-taken (suc n) (x ∷ xs) = ap (λ ys. x ∷ ys) (take-taken n xs)
+
+-- how many bytes pieces have
+abbrev total : List Piece → ℕ
+total [] = 0
+total (ToOut bytes ∷ pieces) = length bytes + total pieces
+total (ToJournal bytes ∷ pieces) = length bytes + total pieces
+
+-- no bytes at all
+none-out : (n : ℕ) (pieces : List Piece) → n ≡ 0 → out_of (first_bytes n pieces) ≡ []
+none-out n [] none = refl
+none-out n (ToOut bytes ∷ pieces) none =
+    let rest = none-out (n - length bytes) pieces (omega (arith, none)) in
+    ap (λ k. take k bytes ++ out_of (first_bytes (n - length bytes) pieces)) none ∙ rest
+none-out n (ToJournal bytes ∷ pieces) none = none-out (n - length bytes) pieces (omega (arith, none))
+
+none-journal : (n : ℕ) (pieces : List Piece) → n ≡ 0 → journal_of (first_bytes n pieces) ≡ []
+none-journal n [] none = refl
+none-journal n (ToJournal bytes ∷ pieces) none =
+    let rest = none-journal (n - length bytes) pieces (omega (arith, none)) in
+    ap (λ k. take k bytes ++ journal_of (first_bytes (n - length bytes) pieces)) none ∙ rest
+none-journal n (ToOut bytes ∷ pieces) none = none-journal (n - length bytes) pieces (omega (arith, none))
+
+-- the bytes of pieces whole, and then k more
+first-behind : (done rest : List Piece) (n k : ℕ) → n ≡ total done + k
+    → (out_of (first_bytes n (done ++ rest)) ≡ out_of done ++ out_of (first_bytes k rest))
+    × (journal_of (first_bytes n (done ++ rest)) ≡ journal_of done ++ journal_of (first_bytes k rest))
+first-behind [] rest n k is =
+    let sum : n ≡ 0 + k = is in
+    let same : n ≡ k = omega (arith, sum) in
+    (ap (λ m. out_of (first_bytes m rest)) same, ap (λ m. journal_of (first_bytes m rest)) same)
+first-behind (ToOut bytes ∷ done) rest n k is =
+    let sum : n ≡ (length bytes + total done) + k = is in
+    let whole : take n bytes ≡ bytes = take-past n bytes (omega (arith, sum)) in
+    let behind = first-behind done rest (n - length bytes) k (omega (arith, sum)) in
+    let more = out_of (first_bytes (n - length bytes) (done ++ rest)) in (
+      ap (λ xs. xs ++ more) whole ∙ ap (λ xs. bytes ++ xs) behind.0
+          ∙ sym (append_assoc bytes (out_of done) (out_of (first_bytes k rest))),
+      behind.1,
+    )
+first-behind (ToJournal bytes ∷ done) rest n k is =
+    let sum : n ≡ (length bytes + total done) + k = is in
+    let whole : take n bytes ≡ bytes = take-past n bytes (omega (arith, sum)) in
+    let behind = first-behind done rest (n - length bytes) k (omega (arith, sum)) in
+    let more = journal_of (first_bytes (n - length bytes) (done ++ rest)) in (
+      behind.0,
+      ap (λ xs. xs ++ more) whole ∙ ap (λ xs. bytes ++ xs) behind.1
+          ∙ sym (append_assoc bytes (journal_of done) (journal_of (first_bytes k rest))),
+    )
+
+no-more : (n : ℕ) (bytes : List ℕ) → length (take n bytes) - length bytes ≡ 0
+no-more n bytes = simp length-take (omega arith)
+
+-- broken off in a piece for the output, behind pieces that were put whole
+pub part-out : (done : List Piece) (bytes : List ℕ) (rest : List Piece) (o0 o1 o2 j0 j1 : Option (List ℕ))
+    → Appends o0 o1 (out_of done) → Appends j0 j1 (journal_of done) → AppendsPart o1 o2 bytes
+    → GotPart (puts o0 o2 j0 j1) (done ++ ToOut bytes ∷ rest)
+part-out done bytes rest o0 o1 o2 j0 j1 out journal part =
+    let m = length (take part.count bytes) in
+    let behind = first-behind done (ToOut bytes ∷ rest) (total done + m) m refl in
+    let none = no-more part.count bytes in
+    let here : out_of (first_bytes m (ToOut bytes ∷ rest)) ≡ take part.count bytes =
+    ap (λ xs. xs ++ out_of (first_bytes (m - length bytes) rest)) (take-taken part.count bytes)
+    ∙ ap (λ xs. take part.count bytes ++ xs) (none-out (m - length bytes) rest none) ∙ append-nil (take part.count bytes) in
+    let nothing : journal_of (first_bytes m (ToOut bytes ∷ rest)) ≡ [] = none-journal (m - length bytes) rest none in
     record {
-      cut_and_marked = whole.marked;
-      allowed = whole.legal;
-      ended = whole.stuck;
-      texts = (
-        ap (λ x. header_line s.ranks s.bound ++ x) tells.journal,
-        ap (λ x. x ++ told.report) tells.lines ∙ ap (λ x. released_lines s (tells.body ++ Commit ∷ []) ++ x) tells.report,
-      );
-      status = tells.end;
+      count = total done + m;
+      got = record {
+        out_got = Appends-same o0 o2 _ _ (sym (behind.0 ∙ ap (λ xs. out_of done ++ xs) here))
+            (Appends-append o0 o1 o2 (out_of done) (take part.count bytes) out part.grown);
+        journal_got = Appends-same j0 j1 _ _
+            (sym (behind.1 ∙ ap (λ xs. journal_of done ++ xs) nothing ∙ append-nil (journal_of done))) journal;
+      };
     }
 
-pub put-all : (file : List ℕ) (s : Setting) (told : Told) (o0 o1 o2 j0 j1 j2 : Option (List ℕ)) → TellsOfRun file s told
-    → Appends j0 j1 (header_line s.ranks s.bound) → Appends j1 j2 told.journal → Appends o0 o1 told.lines → Appends o1 o2 told.report
-    → PutsRun file s (puts o0 o2 j0 j2) told.end
-put-all file s told o0 o1 o2 j0 j1 j2 tells header journal lines report = record {
-  history = tells.body ++ Commit ∷ [];
-  out = told.lines ++ told.report;
-  journal = header_line s.ranks s.bound ++ told.journal;
-  run = is-run file s told tells;
-  got = record {
-    out_got = Appends-append o0 o1 o2 told.lines told.report lines report;
-    journal_got = Appends-append j0 j1 j2 (header_line s.ranks s.bound) told.journal header journal;
-  };
-}
-
-part-of-run : (file : List ℕ) (s : Setting) (told : Told) (p : Puts) → TellsOfRun file s told
-    → GotPart p (told.lines ++ told.report) (header_line s.ranks s.bound ++ told.journal) → PutsRunPart file s p
-part-of-run file s told p tells got = inr (record {
-  history = tells.body ++ Commit ∷ [];
-  out = told.lines ++ told.report;
-  journal = header_line s.ranks s.bound ++ told.journal;
-  end = told.end;
-  run = is-run file s told tells;
-  got = got;
-})
-
--- broken off in the journal's text
-pub put-journal : (file : List ℕ) (s : Setting) (told : Told) (o j0 j1 j2 : Option (List ℕ)) → TellsOfRun file s told
-    → Appends j0 j1 (header_line s.ranks s.bound) → AppendsPart j1 j2 told.journal → PutsRunPart file s (puts o o j0 j2)
-put-journal file s told o j0 j1 j2 tells header journal = part-of-run file s told (puts o o j0 j2) tells (record {
-  out_got = AppendsPart-longer (told.lines ++ told.report) (AppendsPart-whole o o [] (appends-none o));
-  journal_got = AppendsPart-append j0 (header_line s.ranks s.bound) header journal;
-  journal_first = inl (appends-none o);
-})
-
--- broken off in the lines
-pub put-lines : (file : List ℕ) (s : Setting) (told : Told) (o0 o1 j0 j1 j2 : Option (List ℕ)) → TellsOfRun file s told
-    → Appends j0 j1 (header_line s.ranks s.bound) → Appends j1 j2 told.journal → AppendsPart o0 o1 told.lines
-    → PutsRunPart file s (puts o0 o1 j0 j2)
-put-lines file s told o0 o1 j0 j1 j2 tells header journal lines =
-    let whole = Appends-append j0 j1 j2 (header_line s.ranks s.bound) told.journal header journal in
-    part-of-run file s told (puts o0 o1 j0 j2) tells (record {
-      out_got = AppendsPart-longer told.report lines;
-      journal_got = AppendsPart-whole j0 j2 (header_line s.ranks s.bound ++ told.journal) whole;
-      journal_first = inr whole;
-    })
-
--- broken off in the report
-pub put-report : (file : List ℕ) (s : Setting) (told : Told) (o0 o1 o2 j0 j1 j2 : Option (List ℕ)) → TellsOfRun file s told
-    → Appends j0 j1 (header_line s.ranks s.bound) → Appends j1 j2 told.journal → Appends o0 o1 told.lines → AppendsPart o1 o2 told.report
-    → PutsRunPart file s (puts o0 o2 j0 j2)
-put-report file s told o0 o1 o2 j0 j1 j2 tells header journal lines report =
-    let whole = Appends-append j0 j1 j2 (header_line s.ranks s.bound) told.journal header journal in
-    part-of-run file s told (puts o0 o2 j0 j2) tells (record {
-      out_got = AppendsPart-append o0 told.lines lines report;
-      journal_got = AppendsPart-whole j0 j2 (header_line s.ranks s.bound ++ told.journal) whole;
-      journal_first = inr whole;
-    })
+-- broken off in a piece for the journal
+pub part-journal : (done : List Piece) (bytes : List ℕ) (rest : List Piece) (o0 o1 j0 j1 j2 : Option (List ℕ))
+    → Appends o0 o1 (out_of done) → Appends j0 j1 (journal_of done) → AppendsPart j1 j2 bytes
+    → GotPart (puts o0 o1 j0 j2) (done ++ ToJournal bytes ∷ rest)
+part-journal done bytes rest o0 o1 j0 j1 j2 out journal part =
+    let m = length (take part.count bytes) in
+    let behind = first-behind done (ToJournal bytes ∷ rest) (total done + m) m refl in
+    let none = no-more part.count bytes in
+    let here : journal_of (first_bytes m (ToJournal bytes ∷ rest)) ≡ take part.count bytes =
+    ap (λ xs. xs ++ journal_of (first_bytes (m - length bytes) rest)) (take-taken part.count bytes)
+    ∙ ap (λ xs. take part.count bytes ++ xs) (none-journal (m - length bytes) rest none) ∙ append-nil (take part.count bytes) in
+    let nothing : out_of (first_bytes m (ToJournal bytes ∷ rest)) ≡ [] = none-out (m - length bytes) rest none in
+    record {
+      count = total done + m;
+      got = record {
+        out_got = Appends-same o0 o1 _ _
+            (sym (behind.0 ∙ ap (λ xs. out_of done ++ xs) nothing ∙ append-nil (out_of done))) out;
+        journal_got = Appends-same j0 j2 _ _ (sym (behind.1 ∙ ap (λ xs. journal_of done ++ xs) here))
+            (Appends-append j0 j1 j2 (journal_of done) (take part.count bytes) journal part.grown);
+      };
+    }

@@ -1,8 +1,9 @@
-ghost use Rattle.std.specs.Prelude.{◌≡◌, ◌⊎◌, ◌++◌, [], IfOk, string_bytes};
+//! The text of a refusal, and its answer.
+ghost use Rattle.std.specs.Prelude.{◌≡◌, ◌++◌, [], ◌∷◌, IfOk, string_bytes};
 ghost use Rattle.am_io.specs.Faults.{Rose};
 ghost use Rattle.ampi.specs.Answers.{Answers, Explains, cause_text, source_text};
 ghost use Rattle.ampi.specs.Refusal.{cause_number};
-ghost use Rattle.ampi.specs.Runs.{puts};
+ghost use Rattle.ampi.specs.Puts.{ToOut, puts};
 ghost use Rattle.ampi.specs.Yields.{Yields};
 
 use crate::Status;
@@ -14,8 +15,8 @@ use std::alloc::{AllocError, Global};
 /// Puts the text of a refusal, and answers it.
 pub fn refuse<K: Sink>(out: &mut K, text: &[u8], status: Status) -> Status
     requires { status ≡ Status.WriteFault → ⊥ }
-    ensures told { (words : _) (held : _) (journal : _) → Explains words held status text.now []
-        → Answers words held (puts (K.written out.old) (K.written out.new) journal journal) result }
+    ensures told { (words : _) (r : _) (journal : _) → Explains words r status (ToOut text.now ∷ [])
+        → Answers words r (puts (K.written out.old) (K.written out.new) journal journal) result }
     ensures yields { Yields status result }
     ensures write_fault { result ≡ Status.WriteFault → Rose (K.faults out.old) (K.faults out.new) }
     ensures kept { (result ≡ Status.WriteFault → ⊥) → K.faults out.new ≡ K.faults out.old }
@@ -37,8 +38,8 @@ pub fn refuse_file<K: Sink>(
     status: Status,
 ) -> Status
     requires { status ≡ Status.WriteFault → ⊥ }
-    ensures told { (words : _) (held : _) (journal : _) → Explains words held status (before.now ++ name.now ++ behind.now) []
-        → Answers words held (puts (K.written out.old) (K.written out.new) journal journal) result }
+    ensures told { (words : _) (r : _) (journal : _) → Explains words r status (ToOut (before.now ++ name.now ++ behind.now) ∷ [])
+        → Answers words r (puts (K.written out.old) (K.written out.new) journal journal) result }
     ensures yields { Yields status result }
     ensures write_fault { result ≡ Status.WriteFault → Rose (K.faults out.old) (K.faults out.new) }
     ensures kept { (result ≡ Status.WriteFault → ⊥) → K.faults out.new ≡ K.faults out.old }
@@ -86,10 +87,10 @@ pub fn refuse_source<K: Sink>(
     line: u32,
     cause: Cause,
 ) -> Status
-    ensures told { (words : _) (held : _) (journal : _)
-        → Explains words held (Status.Source 0 line (cause_number cause))
-        (source_text line (cause_number cause) (string_bytes command.now.file)) []
-        → Answers words held (puts (K.written out.old) (K.written out.new) journal journal) result }
+    ensures told { (words : _) (r : _) (journal : _)
+        → Explains words r (Status.Source 0 line (cause_number cause))
+        (ToOut (source_text line (cause_number cause) (string_bytes command.now.file)) ∷ [])
+        → Answers words r (puts (K.written out.old) (K.written out.new) journal journal) result }
     ensures yields { Yields (Status.Source 0 line (cause_number cause)) result }
     ensures write_fault { result ≡ Status.WriteFault → Rose (K.faults out.old) (K.faults out.new) }
     ensures kept { (result ≡ Status.WriteFault → ⊥) → K.faults out.new ≡ K.faults out.old }

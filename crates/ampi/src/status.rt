@@ -1,5 +1,6 @@
+//! The program's answer.
 ghost use Rattle.std.specs.Prelude.{◌≡◌};
-ghost use Rattle.ampi.specs.Status.{number_of};
+ghost use Rattle.ampi.specs.Status.{exit_number};
 
 /// The program's answer.
 #[derive(Clone, Copy, Debug, PartialEq, Eq)]
@@ -29,7 +30,7 @@ pub enum Status {
 impl Status {
     /// The number that the process ends with.
     pub fn number(self) -> u8
-        ensures { result ≡ number_of self }
+        ensures { result ≡ exit_number self }
     {
         match self {
             Status::Done => 0,

@@ -1,7 +1,8 @@
+//! The program where nothing outside can fail.
 ghost use Rattle.std.specs.Prelude.{Some};
 ghost use Rattle.run_words.specs.Asks.{bytes_of_words};
-ghost use Rattle.ampi.specs.Answers.{Answers, IsAccepted};
-ghost use Rattle.ampi.specs.Runs.{puts};
+ghost use Rattle.ampi.specs.Answers.{Answers, IsAccepted, reads};
+ghost use Rattle.ampi.specs.Puts.{puts};
 ghost use Rattle.ampi.specs.Yields.{EndsRunOrNoMemory};
 
 use crate::{Status, ampi};
@@ -17,7 +18,7 @@ pub fn ampi_surely(
     out: &mut SureSink,
     journal: &mut SureSink,
 ) -> Status
-    ensures answers { Answers (bytes_of_words words.now) (Some files.old)
+    ensures answers { Answers (bytes_of_words words.now) (reads (Some files.old) 0 0)
         (puts (Some out.old.bytes) (Some out.new.bytes) (Some journal.old.bytes) (Some journal.new.bytes)) result }
     ensures complete { (asked : _) (program : _)
         → IsAccepted (bytes_of_words words.now) (Some files.old) asked program → EndsRunOrNoMemory result }

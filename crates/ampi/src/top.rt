@@ -1,10 +1,11 @@
+//! The top call: words, file, source and run, in this order.
 ghost use Rattle.std.specs.Prelude.{◌≡◌, ◌≤◌, ◌⊎◌, ℕ, length, string_bytes};
 ghost use Rattle.am_io.specs.Faults.{Rose};
-ghost use Rattle.run_words.specs.Asks.{bytes_of_words, IsAccepted as IsAskedBy};
-ghost use Rattle.vm_code.specs.Means.{Means};
+ghost use Rattle.run_words.specs.Asks.{bytes_of_words, IsAskedBy};
+ghost use Rattle.thin_code.specs.Means.{Means};
 ghost use Rattle.thin_compile.specs.Source.{IsCompiled};
-ghost use Rattle.ampi.specs.Answers.{Answers, IsUsage, IsLoaded, source_limit, status_of};
-ghost use Rattle.ampi.specs.Runs.{puts};
+ghost use Rattle.ampi.specs.Answers.{Answers, IsUsage, IsLoaded, reads, source_limit, status_of};
+ghost use Rattle.ampi.specs.Puts.{puts};
 ghost use Rattle.ampi.specs.Yields.{Yields, Comes};
 
 use crate::Status;
@@ -13,8 +14,8 @@ use crate::run::put_run;
 use am_io::{Files, LoadError, SayError, Sink};
 use run_words::{Command, WordsError, read_words};
 use std::alloc::Global;
+use thin_code::Compiled;
 use thin_compile::{CompileError, compile};
-use vm_code::Compiled;
 use w_model::End;
 
 /// The longest source, in bytes.
@@ -33,7 +34,8 @@ pub fn ampi<F: Files, K: Sink, J: Sink>(
     journal: &mut J,
 ) -> Status
     // What was put at each answer, and what it tells of the words and files. At `Done` it is the headline.
-    ensures answers { Answers (bytes_of_words words.now) (F.held files.old)
+    ensures answers { Answers (bytes_of_words words.now)
+        (reads (F.held files.old) (F.faults files.old) (F.faults files.new))
         (puts (K.written out.old) (K.written out.new) (J.written journal.old) (J.written journal.new)) result }
 
     // When each answer comes: it yields to no other but a write that fails and want of memory.
@@ -62,7 +64,8 @@ fn run_file<F: Files, K: Sink, J: Sink>(
 ) -> Status
     requires few { command.now.ranks ≤ 256 }
     requires bounded { command.now.ticks ≤ 16000000 }
-    ensures answers { (words : _) → IsAskedBy words command.now → Answers words (F.held files.old)
+    ensures answers { (words : _) → IsAskedBy words command.now
+        → Answers words (reads (F.held files.old) (F.faults files.old) (F.faults files.new))
         (puts (K.written out.old) (K.written out.new) (J.written journal.old) (J.written journal.new)) result }
     ensures read_fault { (file : ℕ) → result ≡ Status.ReadFault file → Rose (F.faults files.old) (F.faults files.new) }
     ensures write_fault { result ≡ Status.WriteFault
@@ -107,8 +110,8 @@ fn run_text<K: Sink, J: Sink>(
     requires few { command.now.ranks ≤ 256 }
     requires bounded { command.now.ticks ≤ 16000000 }
     requires short { length text.now ≤ source_limit }
-    ensures answers { (words : _) (held : _) → IsAskedBy words command.now → IsLoaded held (string_bytes command.now.file) text.now
-        → Answers words held
+    ensures answers { (words : _) (r : _) → IsAskedBy words command.now
+        → IsLoaded r.held (string_bytes command.now.file) text.now → Answers words r
         (puts (K.written out.old) (K.written out.new) (J.written journal.old) (J.written journal.new)) result }
     ensures no_read_fault { (file : ℕ) → result ≡ Status.ReadFault file → ⊥ }
     ensures write_fault { result ≡ Status.WriteFault
@@ -137,9 +140,9 @@ fn run_compiled<K: Sink, J: Sink>(
     requires means { Means compiled.now.code compiled.now.program }
     requires few { command.now.ranks ≤ 256 }
     requires bounded { command.now.ticks ≤ 16000000 }
-    ensures answers { (words : _) (held : _) (text : _) → IsAskedBy words command.now
-        → IsLoaded held (string_bytes command.now.file) text → IsCompiled text compiled.now
-        → Answers words held
+    ensures answers { (words : _) (r : _) (text : _) → IsAskedBy words command.now
+        → IsLoaded r.held (string_bytes command.now.file) text → IsCompiled text compiled.now
+        → Answers words r
         (puts (K.written out.old) (K.written out.new) (J.written journal.old) (J.written journal.new)) result }
     ensures no_read_fault { (file : ℕ) → result ≡ Status.ReadFault file → ⊥ }
     ensures write_fault { result ≡ Status.WriteFault

@@ -28,7 +28,7 @@ pub record IsMove (loads : List Load) (live : List ProcId) (limit : ℕ) (plan n
   pub heaviest : All (λ m. MayGo loads limit plan from to m → goes_before m mover ≡ false) loads
   pub moved : next ≡ slice_set plan mover.rank.0 to
 
--- so many moves, one after another, lead from a plan to another
+-- n moves, one after another, lead from a plan to another
 abbrev pub Moves : List Load → List ProcId → ℕ → ℕ → List ProcId → List ProcId → Type 0
 Moves loads live limit zero start plan = plan ≡ start
 Moves loads live limit (suc n) start plan =

@@ -32,7 +32,7 @@ pub record AreSpread (live : List ProcId) (order : List Load) (n : ℕ) (plan : 
 abbrev pub standing_cmp : Reverse (ℕ × ProcId) → Reverse (ℕ × ProcId) → Ordering
 standing_cmp x y = ordering_then (nat_cmp y.0.0 x.0.0) (nat_cmp y.0.1.0 x.0.1.0)
 
--- loads, with so many more ticks at a processor
+-- loads, with more ticks at a processor
 abbrev pub given : (ProcId → ℕ) → ProcId → ℕ → ProcId → ℕ
 given load p ticks q = load q + (if p.0 == q.0 then ticks else 0)
 

@@ -1,3 +1,5 @@
+//! The loads of ranks and processors.
+
 ghost use Rattle.std.specs.Prelude.{◌≡◌, ◌<◌, ◌^◌, IfOk};
 ghost use Rattle.balancers.specs.Loads.{AreByRank, places, total};
 

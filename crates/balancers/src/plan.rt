@@ -1,3 +1,5 @@
+//! Plans.
+
 ghost use Rattle.std.specs.Prelude.{◌≡◌};
 
 use am_base::ProcId;

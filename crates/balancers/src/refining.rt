@@ -1,3 +1,5 @@
+//! The plan that refines where ranks are.
+
 ghost use Rattle.std.specs.Prelude.{◌≡◌, ◌+◌, ◌<◌, ◌≤◌, ◌^◌, ℕ, All, Contains, IfOk, IfNone, IfSome, length};
 ghost use Rattle.balancers.specs.Loads.{AreByRank, AreLoads, greatest_load, places, total};
 ghost use Rattle.balancers.specs.Refining.{HasNoMove, IsAtEnd, IsRefined, limit_of};

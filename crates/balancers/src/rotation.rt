@@ -1,3 +1,5 @@
+//! The plan that rotates the ranks.
+
 ghost use Rattle.std.specs.Prelude.{◌≡◌, ◌<◌, All, Contains, IfOk, length, find, nat_lt};
 ghost use Rattle.balancers.specs.Loads.{AreLoads};
 ghost use Rattle.balancers.specs.Rotation.{next_live, rotated, GoesOneOn, LoadsGoOneOn};

@@ -1,3 +1,5 @@
+//! The plan that spreads ranks greedily.
+
 ghost use Rattle.std.specs.Prelude.{◌≡◌, ◌+◌, ◌<◌, ◌^◌, ℕ, List, All, Contains, IfOk, OnOk, IsPermutation, length};
 ghost use Rattle.std.specs.BinaryHeap.{heap_items, heap_len};
 ghost use Rattle.am_base.specs.declared.numbers.ProcId.{ProcId};
@@ -75,7 +77,7 @@ fn all_idle(alloc: Global, live: &[ProcId]) -> Result<BinaryHeap<Standing>, Allo
     Ok(free)
 }
 
-/// Takes the least loaded processor and gives it so many more ticks.
+/// Takes the least loaded processor and gives it these ticks.
 fn take_least(free: &mut BinaryHeap<Standing>, ticks: u64) -> Result<ProcId, AllocError>
     requires some { 0 < heap_len free.old }
     requires room { All (λ x. x.0.0 + ticks < 2 ^ 128) (heap_items free.old) }

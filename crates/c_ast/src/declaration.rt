@@ -1,3 +1,5 @@
+//! The trees of a source and its declarations.
+
 use crate::{BlockItem, Expr, Name, Qualifier, Stmt, Storage, TypeWord};
 use sqlite_items::{Boxed, Items};
 

@@ -1,3 +1,5 @@
+//! The trees of expressions.
+
 use crate::{AssignOp, BinaryOp, Name, NumberType, PrefixOp, TypeName};
 use am_base::Bytes;
 use sqlite_items::{Boxed, Items};

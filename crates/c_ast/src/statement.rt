@@ -1,3 +1,5 @@
+//! The trees of statements.
+
 use crate::{Decl, Expr};
 use sqlite_items::{Boxed, Items};
 

@@ -1,3 +1,5 @@
+//! Names, qualifiers and operators in trees.
+
 use am_base::Bytes;
 
 /// A name where the grammar has one, by its token.

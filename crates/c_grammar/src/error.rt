@@ -1,3 +1,5 @@
+//! Why tokens are no unit.
+
 ghost use Rattle.std.specs.Prelude.{◌≡◌};
 ghost use Rattle.c_grammar.specs.declared.error.ParseError.TheVariants.{Memory};
 

@@ -44,7 +44,7 @@ abbrev pub each : (Lexeme → List Lexeme) → List Lexeme → List Lexeme
 each f [] = []
 each f (l ∷ ls) = f l ++ each f ls
 
--- what the tokens become, where so many names are replaced in one another at most
+-- what the tokens become, where at most n names are replaced in one another
 unfoldable pub becomes : ℕ → List Macro → List (List ℕ) → List Lexeme → List Lexeme
 becomes zero macros hidden ls = ls
 becomes (suc n) macros hidden ls =

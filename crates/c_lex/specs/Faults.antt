@@ -24,7 +24,7 @@ pub data Cause : Type 0 where
 abbrev pub StartsToken : ℕ → Type 0
 StartsToken b = IsTrue (starts_word b) ⊎ (IsTrue (is_digit 10 b) ⊎ ((b ≡ 34) ⊎ ((b ≡ 39) ⊎ StartsMark b)))
 
--- A literal behind its first quote: so many of its bytes are right, and the next one stands for nothing.
+-- A literal behind its first quote: its first n bytes are right, and the next one stands for nothing.
 abbrev pub IsBadLiteral : ℕ → List ℕ → ℕ → Type 0
 IsBadLiteral quote body k =
     (bytes front rest : List ℕ) × (body ≡ front ++ rest) × AreCharacters quote body bytes rest
@@ -80,7 +80,7 @@ BeginsDirective names text =
     ⊎ (((name rest : List ℕ) × IsDefineOf text name rest × (IsDefined names name → ⊥))
     ⊎ ((rest : List ℕ) × IsPragma text rest))
 
--- so many bytes stand before the rest
+-- n bytes stand before the rest
 abbrev pub IsBefore : ℕ → List ℕ → List ℕ → Type 0
 IsBefore k text rest = (front : List ℕ) × (text ≡ front ++ rest) × (k ≡ length front)
 

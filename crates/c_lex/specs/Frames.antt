@@ -82,7 +82,7 @@ abbrev pub ArePlaced : List Mark → List Frame → Type 0
 ArePlaced marks [] = Unit {0}
 ArePlaced marks (f ∷ fs) = (place_at marks f.number ≡ length fs) × ArePlaced marks fs
 
--- What holds of the frames and the marks, with so many macros and so many tokens.
+-- What holds of the frames and the marks, with a number of macros and of tokens.
 pub record AreStanding (macros : List Macro) (macro_of : ℕ → Macro) (size : ℕ) (marks : List Mark) (fs : List Frame) (count : ℕ) : Type 0 where
   pub empty : List Macro
   pub are_empty : AreEmpty macros empty

@@ -51,7 +51,7 @@ abbrev pub TellsDirective : List (List ℕ) → List ℕ → ℕ → LexError �
 TellsDirective names text at e =
     IfSome (fault_of e) (λ fault. (cause : Cause) × (k : ℕ) × IsBadDirective names text cause k × (fault ≡ Fault cause (at + k)))
 
--- Behind some tokens stands a bad one, so many bytes from the front of the text on.
+-- Behind some tokens stands a bad one, at this number of bytes from the front of the text.
 pub record IsBadBody (text : List ℕ) (cause : Cause) (k : ℕ) : Type 0 where
   pub ls : List Lexeme
   pub rest : List ℕ

@@ -92,14 +92,14 @@ is_other_byte b = not (starts_word b || (is_digit 10 b || (b == 10 || (b == 34 |
 
 -- ---- characters
 
--- how many digits stand at the front, counted up to so many
+-- how many digits stand at the front, counted up to a limit
 abbrev pub digits_len : ℕ → ℕ → List ℕ → ℕ
 digits_len base most text = prefix_len (is_digit base) (take most text)
 
 abbrev pub byte_before : ℕ → List ℕ → Option (ℕ × List ℕ)
 byte_before n rest = if nat_le n 255 then Some (n, rest) else None
 
--- the byte that these digits spell, up to so many of them
+-- the byte that these digits spell, up to a limit
 unfoldable pub digits_at : ℕ → ℕ → List ℕ → Option (ℕ × List ℕ)
 digits_at base most text =
     let n = digits_len base most text in

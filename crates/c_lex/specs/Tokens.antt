@@ -124,11 +124,11 @@ joined (t ∷ ts) = before_joined t (joined ts)
 abbrev pub most_tokens : ℕ
 most_tokens = 2 ^ 20
 
--- so many tokens, and what the token becomes, are too many
+-- n tokens, and what the token becomes, are too many
 abbrev pub PassesMost : List Macro → Lexeme → ℕ → Type 0
 PassesMost macros l count = (ls : List Lexeme) × Become macros [] (l ∷ []) ls × (most_tokens < count + length ls)
 
--- The source begins with these pieces, they are right, and they give so many tokens.
+-- The source begins with these pieces, they are right, and they give n tokens.
 pub record BeginsRight (source : List ℕ) (ps : List Piece) (out : List AToken) (rest : List ℕ) : Type 0 where
   pub pieces : BeginsWithPieces source ps rest
   pub give : Give [] no_headers ps out

@@ -1,3 +1,5 @@
+//! White space and comments.
+
 ghost use Rattle.std.specs.Prelude.{◌≡◌, IfSome};
 ghost use Rattle.std.specs.Option.{option_copied};
 ghost use Rattle.c_lex.specs.Blanks.{is_blank, IsGap};

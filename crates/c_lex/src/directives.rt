@@ -1,3 +1,5 @@
+//! Directives.
+
 ghost use Rattle.std.specs.Prelude.{◌≡◌, ◌⊎◌, ◌↔◌, ◌==◌, ◌+◌, ◌<◌, ◌^◌, ℕ, List, [], ◌∷◌, ◌++◌, length, IsTrue, MatchBool, IfOk, IfErr, IfSome, IfNone, codes};
 ghost use Rattle.c_lex.specs.declared.token.Header.{Header as AHeader};
 ghost use Rattle.c_lex.specs.Blanks.{First, NotFirst, IsLineEnd, AreGaps, IsOpenComment};

@@ -1,3 +1,5 @@
+//! Replacing macros by their tokens.
+
 ghost use Rattle.std.specs.Prelude.{◌≡◌, ◌<◌, ◌≤◌, ◌∷◌, [], ◌++◌, ◌+◌, ◌==◌, length, drop, reverse, if◌then◌else◌, MatchOption, OnOk, OnErr, IsErrOf, map, false};
 ghost use Rattle.std.specs.List.{AllByRecursion};
 ghost use Rattle.c_lex.specs.Table.{names_in, IsTable};
@@ -11,7 +13,7 @@ use crate::token::{Headers, Token};
 use am_base::Bytes;
 use std::alloc::{AllocError, Global};
 
-/// A source's tokens are at most so many.
+/// The most tokens that a source may have.
 const MOST_TOKENS: usize = 1 << 20;
 
 /// A macro that is being replaced.

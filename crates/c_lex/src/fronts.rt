@@ -1,3 +1,5 @@
+//! What stands at the front of a text.
+
 ghost use Rattle.std.specs.Prelude.{◌≡◌, ◌+◌, ◌<◌, ◌^◌, ℕ, length, IfOk, IfErr, IfSome};
 ghost use Rattle.c_lex.specs.Blanks.{First};
 ghost use Rattle.c_lex.specs.Faults.{Cause, IsBadToken};

@@ -1,3 +1,5 @@
+//! Joining strings that stand next to each other.
+
 ghost use Rattle.std.specs.Prelude.{◌≡◌, ◌&&◌, IfOk, OnOk};
 ghost use Rattle.c_lex.specs.Tokens.{is_text, joined};
 ghost use Rattle.c_lex.specs.Joining.{added};

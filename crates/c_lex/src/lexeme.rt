@@ -1,3 +1,5 @@
+//! Tokens without their place.
+
 use crate::token::TokenKind;
 use am_base::Bytes;
 

@@ -1,3 +1,5 @@
+//! Characters and escapes.
+
 ghost use Rattle.std.specs.Prelude.{◌≡◌, ℕ, ◌∷◌, ◌+◌, ◌<◌, ◌≤◌, ◌^◌, length, option_map, IfOk, IfErr, IfSome};
 ghost use Rattle.std.specs.Option.{option_copied};
 ghost use Rattle.c_lex.specs.Literals.{is_plain, char_value};
@@ -21,7 +23,7 @@ fn is_plain(quote: u8, byte: u8) -> bool
     (32 <= byte && byte <= 126 && !(byte == quote || byte == b'\\')) || 128 <= byte
 }
 
-/// How many digits stand at the front, counted up to so many.
+/// How many digits stand at the front, counted up to `most`.
 fn digits_len(base: u8, most: usize, text: &[u8]) -> usize
     ensures { result ≡ digits_len base most text.now }
 {
@@ -31,7 +33,7 @@ fn digits_len(base: u8, most: usize, text: &[u8]) -> usize
         .count()
 }
 
-/// The byte that these digits spell, up to so many of them, and the text behind them.
+/// The byte that these digits spell, up to `most` of them, and the text behind them.
 #[tactic(auto, unfolding(crate::specs::Reading::digits_at))]
 fn digits_at(base: u8, most: usize, text: &[u8]) -> Option<(u8, &[u8])>
     requires { 2 ≤ base }

@@ -1,3 +1,5 @@
+//! The macros that are defined.
+
 ghost use Rattle.std.specs.Prelude.{◌≡◌, ◌↔◌, ◌≤◌, ◌∷◌, [], IsTrue, length, OnOk, OnErr, IsErrOf};
 ghost use Rattle.c_lex.specs.declared.macros.ExpandError.TheVariants.{Memory};
 ghost use Rattle.c_lex.specs.Pieces.{Macro};

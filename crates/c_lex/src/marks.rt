@@ -1,3 +1,5 @@
+//! Punctuators.
+
 ghost use Rattle.std.specs.Prelude.{◌≡◌, ℕ, List, find, length, drop, IfSome, IfNone};
 ghost use Rattle.c_lex.specs.declared.token.Mark.{Mark as AMark};
 ghost use Rattle.c_lex.specs.Words.{mark_text, IsMark};

@@ -1,3 +1,5 @@
+//! The pieces of a source: gaps, directives and tokens.
+
 ghost use Rattle.std.specs.Prelude.{◌≡◌, ◌+◌, ◌<◌, ◌≤◌, ◌^◌, ◌==◌, ◌∷◌, [], List, ℕ, true, false, length, MatchBool, IfOk, OnOk, IfErr, IfSome};
 ghost use Rattle.c_lex.specs.Blanks.{First, NotFirst, feeds_in};
 ghost use Rattle.c_lex.specs.Pieces.{Piece as APiece};

@@ -1,3 +1,5 @@
+//! String literals.
+
 ghost use Rattle.std.specs.Prelude.{◌≡◌, ℕ, ◌∷◌, ◌+◌, ◌<◌, ◌^◌, length, IfOk, IfErr, IfSome};
 ghost use Rattle.c_lex.specs.Faults.{Cause, IsBadToken};
 ghost use Rattle.c_lex.specs.Tokens.{Fault, fault_of};

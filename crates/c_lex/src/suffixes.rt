@@ -1,3 +1,5 @@
+//! The suffixes and types of numbers.
+
 ghost use Rattle.std.specs.Prelude.{◌≡◌, ◌≤◌, length};
 ghost use Rattle.c_lex.specs.NumberVerdicts.{long_len, unsigned_len, suffix_at};
 

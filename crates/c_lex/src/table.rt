@@ -1,3 +1,5 @@
+//! The macros by number.
+
 ghost use Rattle.std.specs.Prelude.{◌≡◌, ◌↔◌, ◌+◌, ◌^◌, ◌<◌, ◌++◌, ◌∷◌, [], ℕ, List, length, slice_get, option_copied, IfSome, IfNone, IsTrue, OnOk, OnErr};
 ghost use Rattle.c_lex.specs.Faults.{IsDefined};
 ghost use Rattle.c_lex.specs.Lexemes.{name_token};

@@ -1,3 +1,5 @@
+//! Tokens.
+
 use am_base::Bytes;
 
 /// A word that C gives a meaning (C11, 6.4.1), of those that this profile has.

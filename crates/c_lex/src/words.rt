@@ -1,3 +1,5 @@
+//! Names, keywords and the words that are left out.
+
 ghost use Rattle.std.specs.Prelude.{◌≡◌, ◌≢◌, ◌+◌, ◌<◌, ◌^◌, ℕ, find, length, IfOk, IfErr, IfSome, IfNone};
 ghost use Rattle.std.specs.List.{prefix_len, list_any};
 ghost use Rattle.std.specs.Str.{bytes_eq};

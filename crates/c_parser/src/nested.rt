@@ -130,7 +130,10 @@ fn takes_token(token: u32, read: Result<Unit, ParseError>) -> Result<bool, Alloc
     ensures { IsTaken token read result }
 {
     match read {
-        Ok(_) => Ok(true),
+        Ok(unit) => {
+            drop(unit);
+            Ok(true)
+        }
         Err(ParseError::Unexpected { token: other } | ParseError::TooNested { token: other }) => {
             Ok(token < other)
         }
@@ -201,11 +204,15 @@ fn told(alloc: Global, tokens: &[Token], token: u32) -> ParseError
     ensures { IsFault result (told tokens.now token) }
 {
     match unit(alloc, tokens.len() as u32, tokens, DEEPER) {
+        Ok(unit) => {
+            drop(unit);
+            ParseError::TooNested { token }
+        }
         Err(ParseError::Memory) => ParseError::Memory,
         Err(ParseError::Unexpected { token: other }) if other == token => {
             placed(alloc, tokens, token)
         }
-        _ => ParseError::TooNested { token },
+        Err(_) => ParseError::TooNested { token },
     }
 }
 

@@ -1,17 +1,18 @@
 //! Statements and blocks.
 
-ghost use Rattle.std.specs.Prelude.{◌≡◌, ◌-◌, ◌<◌, Some, [], length};
+ghost use Rattle.std.specs.Prelude.{◌≡◌, ◌-◌, ◌<◌, Some, [], Ok, length, IfOk};
 ghost use Rattle.c_ast.specs.declared.statement.Stmt.TheVariants.{Break, Continue};
-ghost use Rattle.c_grammar.specs.Reading.{Gives};
+ghost use Rattle.c_lex.specs.declared.token.Keyword.TheVariants as keyword;
+ghost use Rattle.c_grammar.specs.Reading.{Gives, behind, expect_keyword};
 ghost use Rattle.c_grammar.specs.Nests.{most, state_of, seen, error_of};
 ghost use Rattle.c_parser.specs.NestsStmt.{ReadsStmt};
 ghost use Rattle.c_grammar.specs.ReadingExpr.{sees_type};
-ghost use Rattle.c_grammar.specs.ReadingStmt.{optional, bracketed, for_start, for_head, if_with, while_with, switch_with, do_with, for_with, case_with, default_with, word_alone, return_with, express_with, keyword_at, starts_simple, sees_simple, cramped, simple, by_keyword, item, items, block_with, statement};
+ghost use Rattle.c_grammar.specs.ReadingStmt.{left_to, optional, bracketed, for_start, for_head, if_with, while_with, switch_with, do_with, for_with, case_with, default_with, word_alone, return_with, express_with, keyword_at, starts_simple, sees_simple, cramped, simple, by_keyword, item, items, block_with, statement};
 
 use c_ast::{BlockItem, Expr, ForStart, Stmt};
 use c_grammar::{Cursor, Extent, Head, ParseError, Scope, sees_expr, sees_mark, sees_type};
 use c_lex::{Keyword, Mark, Token, TokenKind};
-use c_phrases::{decl, expr, leave};
+use c_phrases::{decl, ended, expr, leave};
 use sqlite_items::{Boxed, Items};
 use std::alloc::Global;
 
@@ -31,7 +32,7 @@ fn optional(
         return Ok(None);
     }
     let value = expr(alloc, cursor, room, Extent::Comma)?;
-    cursor.expect_mark(mark)?;
+    let value = ended(cursor, value, mark)?;
     Ok(Some(value))
 }
 
@@ -43,8 +44,7 @@ fn test(alloc: Global, cursor: &mut Cursor<'_>, room: u8) -> Result<Expr, ParseE
 {
     cursor.expect_mark(Mark::OpenParen)?;
     let value = expr(alloc, cursor, room, Extent::Comma)?;
-    cursor.expect_mark(Mark::CloseParen)?;
-    Ok(value)
+    ended(cursor, value, Mark::CloseParen)
 }
 
 /// Reads what stands first in the parentheses of a `for`.
@@ -71,9 +71,21 @@ fn for_head(alloc: Global, cursor: &mut Cursor<'_>, room: u8) -> Result<Head, Pa
         return Err(cursor.too_deep());
     }
     let start = for_start(alloc, cursor, room)?;
-    let test = optional(alloc, cursor, room, Mark::Semicolon)?;
-    let step = optional(alloc, cursor, room, Mark::CloseParen)?;
-    Ok(Head { start, test, step })
+    let test = match optional(alloc, cursor, room, Mark::Semicolon) {
+        Ok(test) => test,
+        Err(e) => {
+            drop(start);
+            return Err(e);
+        }
+    };
+    match optional(alloc, cursor, room, Mark::CloseParen) {
+        Ok(step) => Ok(Head { start, test, step }),
+        Err(e) => {
+            drop(start);
+            drop(test);
+            Err(e)
+        }
+    }
 }
 
 /// Reads what is behind `break` (C11, 6.8.6.3).
@@ -180,6 +192,47 @@ fn cramped(cursor: &Cursor<'_>) -> ParseError
     }
 }
 
+/// A statement whose names, behind so many before it, are out of scope behind it.
+fn left(cursor: &mut Cursor<'_>, outer: usize, statement: Stmt) -> Result<Stmt, ParseError>
+    ensures total { cursor.new.total ≡ cursor.old.total }
+    ensures reads { Gives (λ _. state_of cursor.new) result (Ok (left_to outer (state_of cursor.old))) }
+    ensures same { IfOk result (λ found. found ≡ statement) }
+{
+    match leave(cursor, outer) {
+        Ok(()) => Ok(statement),
+        Err(e) => {
+            drop(statement);
+            Err(e)
+        }
+    }
+}
+
+/// The statement inside of a `do`, whose names are out of scope behind it, and the `while` that has to come next.
+fn behind_body(
+    cursor: &mut Cursor<'_>,
+    outer: usize,
+    body: Boxed<Stmt>,
+) -> Result<Boxed<Stmt>, ParseError>
+    ensures total { cursor.new.total ≡ cursor.old.total }
+    ensures reads { Gives (λ _. state_of cursor.new) result (expect_keyword cursor.old.total keyword.While (left_to outer (state_of cursor.old))) }
+    ensures same { IfOk result (λ found. found ≡ body) }
+{
+    match leave(cursor, outer) {
+        Ok(()) => {}
+        Err(e) => {
+            drop(body);
+            return Err(e);
+        }
+    }
+    match cursor.expect_keyword(Keyword::While) {
+        Ok(()) => Ok(body),
+        Err(e) => {
+            drop(body);
+            Err(e)
+        }
+    }
+}
+
 /// The rules of statements with statements inside of them, at a place with so much room there. What reads those is a
 /// parameter, so that each rule is proved by itself.
 #[derive(Clone, Copy)]
@@ -212,26 +265,50 @@ impl<F: Fn(Global, &mut Cursor<'_>, u8) -> Result<Stmt, ParseError>> Statements<
         let outer = cursor.names.len();
         let test = test(self.alloc, cursor, self.room - 1)?;
         let inner = cursor.names.len();
-        let then = self.inner(cursor)?;
+        let then = match self.inner(cursor) {
+            Ok(then) => then,
+            Err(e) => {
+                drop(test);
+                return Err(e);
+            }
+        };
         if !cursor.sees_keyword(Keyword::Else) {
-            leave(cursor, outer)?;
-            return Ok(Stmt::If {
+            let statement = Stmt::If {
                 token,
                 test,
                 then,
                 otherwise: None,
-            });
+            };
+            return left(cursor, outer, statement);
         }
+        match self.behind_else(cursor, inner) {
+            Ok(otherwise) => {
+                let statement = Stmt::If {
+                    token,
+                    test,
+                    then,
+                    otherwise: Some(otherwise),
+                };
+                left(cursor, outer, statement)
+            }
+            Err(e) => {
+                drop(test);
+                drop(then);
+                Err(e)
+            }
+        }
+    }
+
+    /// Takes the names of the statement before an `else` out of scope, and reads the one behind it.
+    fn behind_else(&self, cursor: &mut Cursor<'_>, inner: usize) -> Result<Boxed<Stmt>, ParseError>
+        requires { ReadsStmt self.now.room (F.pre self.now.statement) (F.post self.now.statement) }
+        ensures total { cursor.new.total ≡ cursor.old.total }
+        ensures reads { Gives (seen cursor.new) result
+            (statement cursor.old.total most self.now.room (behind (left_to inner (state_of cursor.old)))) }
+    {
         leave(cursor, inner)?;
         cursor.skip();
-        let otherwise = Some(self.inner(cursor)?);
-        leave(cursor, outer)?;
-        Ok(Stmt::If {
-            token,
-            test,
-            then,
-            otherwise,
-        })
+        self.inner(cursor)
     }
 
     /// Reads what is behind `while` (C11, 6.8.5.1).
@@ -245,9 +322,13 @@ impl<F: Fn(Global, &mut Cursor<'_>, u8) -> Result<Stmt, ParseError>> Statements<
     {
         let outer = cursor.names.len();
         let test = test(self.alloc, cursor, self.room - 1)?;
-        let body = self.inner(cursor)?;
-        leave(cursor, outer)?;
-        Ok(Stmt::While { token, test, body })
+        match self.inner(cursor) {
+            Ok(body) => left(cursor, outer, Stmt::While { token, test, body }),
+            Err(e) => {
+                drop(test);
+                Err(e)
+            }
+        }
     }
 
     /// Reads what is behind `switch` (C11, 6.8.4.2).
@@ -261,9 +342,13 @@ impl<F: Fn(Global, &mut Cursor<'_>, u8) -> Result<Stmt, ParseError>> Statements<
     {
         let outer = cursor.names.len();
         let value = test(self.alloc, cursor, self.room - 1)?;
-        let body = self.inner(cursor)?;
-        leave(cursor, outer)?;
-        Ok(Stmt::Switch { token, value, body })
+        match self.inner(cursor) {
+            Ok(body) => left(cursor, outer, Stmt::Switch { token, value, body }),
+            Err(e) => {
+                drop(value);
+                Err(e)
+            }
+        }
     }
 
     /// Reads what is behind `do` (C11, 6.8.5.2).
@@ -277,12 +362,21 @@ impl<F: Fn(Global, &mut Cursor<'_>, u8) -> Result<Stmt, ParseError>> Statements<
     {
         let outer = cursor.names.len();
         let body = self.inner(cursor)?;
-        leave(cursor, outer)?;
-        cursor.expect_keyword(Keyword::While)?;
-        let test = test(self.alloc, cursor, self.room - 1)?;
-        cursor.expect_mark(Mark::Semicolon)?;
-        leave(cursor, outer)?;
-        Ok(Stmt::Do { token, body, test })
+        let body = behind_body(cursor, outer, body)?;
+        let test = match test(self.alloc, cursor, self.room - 1) {
+            Ok(test) => test,
+            Err(e) => {
+                drop(body);
+                return Err(e);
+            }
+        };
+        match ended(cursor, test, Mark::Semicolon) {
+            Ok(test) => left(cursor, outer, Stmt::Do { token, body, test }),
+            Err(e) => {
+                drop(body);
+                Err(e)
+            }
+        }
     }
 
     /// Reads what is behind `for` (C11, 6.8.5.3).
@@ -297,15 +391,23 @@ impl<F: Fn(Global, &mut Cursor<'_>, u8) -> Result<Stmt, ParseError>> Statements<
         let outer = cursor.names.len();
         cursor.expect_mark(Mark::OpenParen)?;
         let head = for_head(self.alloc, cursor, self.room - 1)?;
-        let body = self.inner(cursor)?;
-        leave(cursor, outer)?;
-        Ok(Stmt::For {
-            token,
-            start: head.start,
-            test: head.test,
-            step: head.step,
-            body,
-        })
+        match self.inner(cursor) {
+            Ok(body) => {
+                let Head { start, test, step } = head;
+                let statement = Stmt::For {
+                    token,
+                    start,
+                    test,
+                    step,
+                    body,
+                };
+                left(cursor, outer, statement)
+            }
+            Err(e) => {
+                drop(head);
+                Err(e)
+            }
+        }
     }
 
     /// Reads what is behind `case` (C11, 6.8.1).
@@ -317,9 +419,14 @@ impl<F: Fn(Global, &mut Cursor<'_>, u8) -> Result<Stmt, ParseError>> Statements<
             (case_with cursor.old.total most (statement cursor.old.total most self.now.room) self.now.room token (state_of cursor.old)) }
     {
         let value = expr(self.alloc, cursor, self.room, Extent::Cond)?;
-        cursor.expect_mark(Mark::Colon)?;
-        let body = self.inner(cursor)?;
-        Ok(Stmt::Case { token, value, body })
+        let value = ended(cursor, value, Mark::Colon)?;
+        match self.inner(cursor) {
+            Ok(body) => Ok(Stmt::Case { token, value, body }),
+            Err(e) => {
+                drop(value);
+                Err(e)
+            }
+        }
     }
 
     /// Reads what is behind `default` (C11, 6.8.1).
@@ -441,7 +548,9 @@ impl<F: Fn(Global, &mut Cursor<'_>, u8) -> Result<Stmt, ParseError>> Statements<
             all.push(one)?;
         }
         // the end of the tokens, which may be nested too deeply
-        let _more = self.item(cursor)?;
+        drop(all);
+        let more = self.item(cursor)?;
+        drop(more);
         Err(cursor.unexpected())
     }
 
@@ -457,8 +566,7 @@ impl<F: Fn(Global, &mut Cursor<'_>, u8) -> Result<Stmt, ParseError>> Statements<
         let outer = cursor.names.len();
         cursor.skip();
         let items = self.items(cursor)?;
-        leave(cursor, outer)?;
-        Ok(Stmt::Block { token, items })
+        left(cursor, outer, Stmt::Block { token, items })
     }
 }
 

@@ -1,17 +1,61 @@
 //! Functions, declarations outside of them, and units.
 
-ghost use Rattle.std.specs.Prelude.{◌≡◌, ◌<◌, [], length};
-ghost use Rattle.c_grammar.specs.Reading.{Gives};
+ghost use Rattle.std.specs.Prelude.{◌≡◌, ◌<◌, [], ◌++◌, Ok, length, IfOk};
+ghost use Rattle.c_grammar.specs.Names.{declared};
+ghost use Rattle.c_grammar.specs.Owns.{own_names};
+ghost use Rattle.c_grammar.specs.Reading.{Gives, tail};
 ghost use Rattle.c_grammar.specs.Nests.{most, state_of, seen};
-ghost use Rattle.c_grammar.specs.ReadingStmt.{function, external_behind, external, is_end, externals, unit};
+ghost use Rattle.c_grammar.specs.ReadingStmt.{left_to, function, external_behind, external, is_end, externals, unit};
 
 use crate::statements::block_items;
+use am_base::Bytes;
 use c_ast::{External, Unit};
-use c_grammar::{Cursor, ParseError, ReadDeclarator, ReadSpecs, Scope};
+use c_grammar::{Cursor, OwnNames, ParseError, ReadDeclarator, ReadSpecs, Scope};
 use c_lex::{Mark, Token};
 use c_phrases::{bare, decl_from, declarator, leave, specs};
 use sqlite_items::Items;
 use std::alloc::Global;
+
+/// Declares the name of a function, and goes behind the brace that opens its body, with its parameters in scope. The result is how
+/// many names there are without them.
+fn opened(
+    alloc: Global,
+    cursor: &mut Cursor<'_>,
+    name: Bytes,
+    own: OwnNames,
+    is_typedef: bool,
+) -> Result<usize, ParseError>
+    ensures total { cursor.new.total ≡ cursor.old.total }
+    ensures reads { Gives (λ _. state_of cursor.new) result (Ok (record { names = own_names own ++ declared cursor.old.names name is_typedef; rest = tail cursor.old.rest.now })) }
+    ensures outer { IfOk result (λ outer. outer ≡ length (declared cursor.old.names name is_typedef)) }
+{
+    match cursor.names.declare(name, is_typedef) {
+        Ok(()) => {}
+        Err(_) => {
+            drop(own);
+            return Err(ParseError::Memory);
+        }
+    }
+    let outer = cursor.names.len();
+    cursor.names.reopen(own.into_names(alloc))?;
+    cursor.skip();
+    Ok(outer)
+}
+
+/// A function whose names, behind so many before it, are out of scope behind it.
+fn left(cursor: &mut Cursor<'_>, outer: usize, external: External) -> Result<External, ParseError>
+    ensures total { cursor.new.total ≡ cursor.old.total }
+    ensures reads { Gives (λ _. state_of cursor.new) result (Ok (left_to outer (state_of cursor.old))) }
+    ensures same { IfOk result (λ found. found ≡ external) }
+{
+    match leave(cursor, outer) {
+        Ok(()) => Ok(external),
+        Err(e) => {
+            drop(external);
+            Err(e)
+        }
+    }
+}
 
 /// Reads the body of a function: its parameters and its outermost block are one scope (C11, 6.2.1).
 #[tactic(auto, unfolding(c_grammar::specs::ReadingStmt::function))]
@@ -27,18 +71,32 @@ fn function(
     ensures reads { Gives (seen cursor.new) result
         (function cursor.old.total most limit token specs declarator (state_of cursor.old)) }
 {
-    cursor.names.declare(declarator.name, specs.is_typedef)?;
-    let outer = cursor.names.len();
-    cursor.names.reopen(declarator.own.into_names(alloc))?;
-    cursor.skip();
-    let body = block_items(alloc, cursor, limit)?;
-    leave(cursor, outer)?;
-    Ok(External::Function {
-        token,
-        specs: specs.specs,
-        declarator: declarator.tree,
-        body,
-    })
+    let ReadSpecs { specs, is_typedef } = specs;
+    let ReadDeclarator { tree, name, own } = declarator;
+    let outer = match opened(alloc, cursor, name, own, is_typedef) {
+        Ok(outer) => outer,
+        Err(e) => {
+            drop(specs);
+            drop(tree);
+            return Err(e);
+        }
+    };
+    match block_items(alloc, cursor, limit) {
+        Ok(body) => {
+            let external = External::Function {
+                token,
+                specs,
+                declarator: tree,
+                body,
+            };
+            left(cursor, outer, external)
+        }
+        Err(e) => {
+            drop(specs);
+            drop(tree);
+            Err(e)
+        }
+    }
 }
 
 /// Reads a declaration outside all functions on from behind its specifiers.
@@ -57,9 +115,16 @@ fn external_behind(
 {
     if cursor.sees_mark(Mark::Semicolon) {
         cursor.skip();
-        return Ok(External::Declaration(bare(alloc, token, specs.specs)));
+        let ReadSpecs { specs, .. } = specs;
+        return Ok(External::Declaration(bare(alloc, token, specs)));
     }
-    let declarator = declarator(alloc, cursor, limit + 1)?;
+    let declarator = match declarator(alloc, cursor, limit + 1) {
+        Ok(declarator) => declarator,
+        Err(e) => {
+            drop(specs);
+            return Err(e);
+        }
+    };
     if cursor.sees_mark(Mark::OpenBrace) {
         return function(alloc, cursor, token, specs, declarator, limit);
     }
@@ -125,6 +190,10 @@ pub fn unit(alloc: Global, total: u32, tokens: &[Token], limit: u8) -> Result<Un
         rest: tokens,
         names: Scope::new(alloc),
     };
-    let externals = externals(alloc, &mut cursor, limit)?;
-    Ok(Unit { externals })
+    let found = externals(alloc, &mut cursor, limit);
+    drop(cursor);
+    match found {
+        Ok(externals) => Ok(Unit { externals }),
+        Err(e) => Err(e),
+    }
 }

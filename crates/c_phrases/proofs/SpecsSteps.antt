@@ -1,5 +1,5 @@
 -- One step of what reads lists of declarators or of members.
-use Rattle.std.proofs.Common.{◌≡◌, ℕ, zero, suc, ◌-◌, ◌<◌, ◌≤◌, Bool, false, Some, None, Result, Ok, Err, List, [], ◌∷◌, ◌++◌, refl, sym, ap, ◌∙◌, subst, arith}
+use Rattle.std.proofs.Common.{◌≡◌, ℕ, zero, suc, ◌-◌, ◌<◌, ◌≤◌, Bool, true, false, Some, None, Result, Ok, Err, List, [], ◌∷◌, ◌++◌, refl, sym, ap, ◌∙◌, subst, arith}
 use Rattle.std.specs.Result.{IsErrAnd}
 use Rattle.std.proofs.lemmas.Result.{err_from_is_err_and}
 use Rattle.c_lex.specs.declared.token.Mark.TheVariants as mark
@@ -12,13 +12,21 @@ use Rattle.c_grammar.specs.declared.phrases.ReadSpecs.{ReadSpecs}
 use Rattle.c_grammar.specs.declared.error.ParseError.{ParseError}
 use Rattle.c_grammar.specs.declared.error.ParseError.TheVariants as error
 use Rattle.c_grammar.specs.Types.{Typed, Whole}
-use Rattle.c_grammar.specs.Reading.{State, Outcome, ◌>>=◌, sees_mark, expect_mark, FailsBy, Gives}
+use Rattle.c_grammar.specs.Reading.{State, Outcome, ◌>>=◌, sees_mark, behind, expect_mark, FailsBy, Gives}
 use Rattle.c_grammar.specs.ReadingExpr.{choose}
 use Rattle.c_grammar.specs.ReadingDecl.{members_declared, member, members, struct_spec, enum_spec, Saying, SaysStorage, SaysQualifier, SaysWord, SaysStruct, SaysEnum, SaysName, SaysNothing, saying_of, ended_specs, GoesOn, by_saying, specifiers}
 use Rattle.c_phrases.specs.ReadingSpecs.{Step, said, specifier_step}
 use Rattle.c_grammar.specs.Inner.{Inner}
 use Rattle.c_grammar.specs.Levels.{readers}
 use Rattle.c_grammar.specs.Nests.{most}
+
+fails_bind : {A B : Type 0} (e : ParseError) (o : Outcome A) (f : A → Outcome B) → FailsBy e o → FailsBy e (o >>= f)
+fails_bind error.Memory o f h = tt
+fails_bind (error.Unexpected token) o f h = ap (λ p. p >>= f) h
+fails_bind (error.TooNested token) o f h = ap (λ p. p >>= f) h
+
+pub fails_moved : {A : Type 0} (e : ParseError) {o p : Outcome A} → o ≡ p → FailsBy e o → FailsBy e p
+fails_moved e same h = subst (FailsBy e) same h
 
 pub declarators_end : (total room count : ℕ) (front : List Declarator) (s : State) {t t' : ℕ} {all : List Declarator} {s1 s' : State} {d : ReadDeclarator}
     → 0 < count → t ≡ total → t' ≡ t → (readers t most room).declarator s ≡ Ok (d, s1) → sees_mark mark.Comma s1.rest ≡ false
@@ -30,6 +38,30 @@ declarators_end total room (suc count) front s {t} {t'} {all} {s1} {s'} {d} more
     let read' : (readers total most room).declarator s ≡ Ok (d, s1) = ap (λ n. (readers n most room).declarator s) (sym same) ∙ read in
     let ends' : expect_mark total mark.Semicolon s1 ≡ Ok s' = ap (λ n. expect_mark n mark.Semicolon s1) (sym (same' ∙ same)) ∙ ends in
     rw (read', other, ends') (ap (λ ds. Ok (ds, s')) (sym are))
+
+pub declarators_fail : (total room count : ℕ) (front : List Declarator) (s : State) {t t' : ℕ} {s1 : State} {d : ReadDeclarator} (e : ParseError)
+    → 0 < count → t ≡ total → t' ≡ t → (readers t most room).declarator s ≡ Ok (d, s1) → sees_mark mark.Comma s1.rest ≡ false
+    → FailsBy e (expect_mark t' mark.Semicolon s1)
+    → FailsBy e (members_declared total (readers total most room) count front s)
+unfolding members_declared
+declarators_fail total room zero front s e more same same' read other fails = absurd (omega arith)
+declarators_fail total room (suc count) front s {t} {t'} {s1} {d} e more same same' read other fails =
+    let read' : (readers total most room).declarator s ≡ Ok (d, s1) = ap (λ n. (readers n most room).declarator s) (sym same) ∙ read in
+    let fails' : FailsBy e (expect_mark total mark.Semicolon s1) = fails_moved e (ap (λ n. expect_mark n mark.Semicolon s1) (same' ∙ same)) fails in
+    rw (read', other) (fails_bind e (expect_mark total mark.Semicolon s1) (λ s'. Ok (front ++ d.tree ∷ [], s')) fails')
+
+pub declarators_more : (total room count : ℕ) (front : List Declarator) (s : State) {t : ℕ} {all : List Declarator} {s1 s2 : State} {d : ReadDeclarator}
+    → 0 < count → t ≡ total → (readers t most room).declarator s ≡ Ok (d, s1) → sees_mark mark.Comma s1.rest ≡ true
+    → all ≡ front ++ d.tree ∷ [] → s2 ≡ behind s1
+    → members_declared total (readers total most room) (count - 1) all s2 ≡ members_declared total (readers total most room) count front s
+unfolding members_declared
+declarators_more total room zero front s more same read other are next = absurd (omega arith)
+declarators_more total room (suc count) front s {t} {all} {s1} {s2} {d} more same read other are next =
+    let less : suc count - 1 ≡ count = omega arith in
+    let read' : (readers total most room).declarator s ≡ Ok (d, s1) = ap (λ n. (readers n most room).declarator s) (sym same) ∙ read in
+    rw (read', other) (ap (λ n. members_declared total (readers total most room) n all s2) less
+    ∙ ap (λ ds. members_declared total (readers total most room) count ds s2) are
+    ∙ ap (λ s'. members_declared total (readers total most room) count (front ++ d.tree ∷ []) s') next)
 
 pub members_more : (total room count : ℕ) (front : List Member) (s : State) {t : ℕ} {all : List Member} {s1 : State} {m : Member}
     → 0 < count → t ≡ total → member t (readers t most room) s ≡ Ok (m, s1) → sees_mark mark.CloseBrace s1.rest ≡ false
@@ -80,14 +112,6 @@ module _ (total room : ℕ) (inner : Inner) (token : ℕ) where
   unfolding specifiers
   specifiers_none_left zero typed flag front s none = refl
   specifiers_none_left (suc count) typed flag front s none = absurd (omega arith)
-
-fails_bind : {A B : Type 0} (e : ParseError) (o : Outcome A) (f : A → Outcome B) → FailsBy e o → FailsBy e (o >>= f)
-fails_bind error.Memory o f h = tt
-fails_bind (error.Unexpected token) o f h = ap (λ p. p >>= f) h
-fails_bind (error.TooNested token) o f h = ap (λ p. p >>= f) h
-
-pub fails_moved : {A : Type 0} (e : ParseError) {o p : Outcome A} → o ≡ p → FailsBy e o → FailsBy e p
-fails_moved e same h = subst (FailsBy e) same h
 
 pub specifiers_more : (total room token count : ℕ) (front : List Specifier) (typed : Typed) (flag : Bool) (s : State)
     {t : ℕ} {x : Specifier} {typed' : Typed} {flag' : Bool} {all : List Specifier} {s' : State}

@@ -1,22 +1,25 @@
 //! Declarators, with a name or without one (C11, 6.7.6 and 6.7.7).
 
-ghost use Rattle.std.specs.Prelude.{◌≡◌, [], Ok, length};
+ghost use Rattle.std.specs.Prelude.{◌≡◌, [], Ok, length, IfOk};
+ghost use Rattle.c_ast.specs.declared.declaration.Direct.TheVariants as direct;
+ghost use Rattle.c_grammar.specs.Owns.{Open};
 ghost use Rattle.c_grammar.specs.Grammar.{behind_pointers};
 ghost use Rattle.c_grammar.specs.Reading.{Gives};
 ghost use Rattle.c_grammar.specs.ReadingDecl.{qualifier_at, qualifiers, at_rest, pointers, size, sizes, stars, unnamed_from, unnamed, are_bare, starts_direct, direct_at, declarator_from, declarator, param_declarator};
 ghost use Rattle.c_grammar.specs.Levels.{readers};
 ghost use Rattle.c_grammar.specs.Nests.{Nests, most, state_of, seen};
 
+use crate::ends::ended;
 use crate::grammar::Grammar;
 use am_base::Bytes;
-use c_ast::{Abstract, Declarator, Direct, Expr, Qualifier};
+use c_ast::{Abstract, Declarator, Direct, Expr, Name, Qualifier};
 use c_grammar::{
     Cursor, Extent, OwnNames, ParseError, Phrase, ReadDeclarator, ReadDirect, ReadParam, Scope,
     Wanted, qualifier_of, sees_mark,
 };
 use c_lex::{Mark, Token, TokenKind};
 use sqlite_items::{Boxed, Items};
-use std::alloc::Global;
+use std::alloc::{AllocError, Global};
 
 /// The qualifier that comes next.
 fn qualifier_at(tokens: &[Token]) -> Option<Qualifier>
@@ -107,6 +110,42 @@ fn behind_pointers(alloc: Global, pointers: &[Items<Qualifier>], own: OwnNames) 
     }
 }
 
+/// A name as what a declarator declares.
+fn named(alloc: Global, name: Name) -> Result<ReadDirect, AllocError>
+    ensures { IfOk result (λ found. found ≡ record { tree = direct.Name name; name = name.text; own = Open }) }
+{
+    match Bytes::from_slice(alloc, name.text.as_slice()) {
+        Ok(bytes) => Ok(ReadDirect {
+            tree: Direct::Name(name),
+            name: bytes,
+            own: OwnNames::open(),
+        }),
+        Err(e) => {
+            drop(name);
+            Err(e)
+        }
+    }
+}
+
+/// A declarator in parentheses, of which the first has this number.
+fn nested(alloc: Global, token: u32, found: ReadDeclarator) -> Result<ReadDirect, AllocError>
+    ensures { IfOk result (λ outer. outer ≡ record { tree = direct.Nested token found.tree; name = found.name; own = found.own }) }
+{
+    let ReadDeclarator { tree, name, own } = found;
+    match Boxed::new(alloc, tree) {
+        Ok(inner) => Ok(ReadDirect {
+            tree: Direct::Nested { token, inner },
+            name,
+            own,
+        }),
+        Err(e) => {
+            drop(name);
+            drop(own);
+            Err(e)
+        }
+    }
+}
+
 impl<F: Fn(Global, &mut Cursor<'_>, u8, Wanted) -> Result<Phrase, ParseError>> Grammar<F> {
     /// Reads `[ cond ]` or `[ ]`.
     #[tactic(auto, unfolding(c_grammar::specs::ReadingDecl::size))]
@@ -121,7 +160,7 @@ impl<F: Fn(Global, &mut Cursor<'_>, u8, Wanted) -> Result<Phrase, ParseError>> G
             return Ok(None);
         }
         let size = self.inner_expr(cursor, Extent::Cond)?;
-        cursor.expect_mark(Mark::CloseBracket)?;
+        let size = ended(cursor, size, Mark::CloseBracket)?;
         Ok(Some(Boxed::new(self.alloc, size)?))
     }
 
@@ -179,22 +218,17 @@ impl<F: Fn(Global, &mut Cursor<'_>, u8, Wanted) -> Result<Phrase, ParseError>> G
         let token = cursor.here();
         if !cursor.sees_mark(Mark::OpenParen) {
             let name = cursor.expect_name(self.alloc)?;
-            let bytes = Bytes::from_slice(self.alloc, name.text.as_slice())?;
-            return Ok(ReadDirect {
-                tree: Direct::Name(name),
-                name: bytes,
-                own: OwnNames::open(),
-            });
+            return Ok(named(self.alloc, name)?);
         }
         cursor.skip();
-        let ReadDeclarator { tree, name, own } = self.inner_declarator(cursor)?;
-        cursor.expect_mark(Mark::CloseParen)?;
-        let inner = Boxed::new(self.alloc, tree)?;
-        Ok(ReadDirect {
-            tree: Direct::Nested { token, inner },
-            name,
-            own,
-        })
+        let found = self.inner_declarator(cursor)?;
+        match cursor.expect_mark(Mark::CloseParen) {
+            Ok(()) => Ok(nested(self.alloc, token, found)?),
+            Err(e) => {
+                drop(found);
+                Err(e)
+            }
+        }
     }
 
     /// Reads what is behind the pointers of a declarator, whose first token has this number.
@@ -210,20 +244,36 @@ impl<F: Fn(Global, &mut Cursor<'_>, u8, Wanted) -> Result<Phrase, ParseError>> G
         ensures reads { Gives (seen cursor.new) result
             (declarator_from cursor.old.total self.now.room (readers cursor.old.total most self.now.room) token pointers (state_of cursor.old)) }
     {
+        let found = match self.direct(cursor) {
+            Ok(found) => found,
+            Err(e) => {
+                drop(pointers);
+                return Err(e);
+            }
+        };
         let ReadDirect {
             tree: direct,
             name,
             own,
-        } = self.direct(cursor)?;
-        let (suffixes, own) = self.suffixes(cursor, own)?;
-        let own = behind_pointers(self.alloc, pointers.as_slice(), own);
-        let tree = Declarator {
-            token,
-            pointers,
-            direct,
-            suffixes,
-        };
-        Ok(ReadDeclarator { tree, name, own })
+        } = found;
+        match self.suffixes(cursor, own) {
+            Ok((suffixes, own)) => {
+                let own = behind_pointers(self.alloc, pointers.as_slice(), own);
+                let tree = Declarator {
+                    token,
+                    pointers,
+                    direct,
+                    suffixes,
+                };
+                Ok(ReadDeclarator { tree, name, own })
+            }
+            Err(e) => {
+                drop(pointers);
+                drop(direct);
+                drop(name);
+                Err(e)
+            }
+        }
     }
 
     /// Reads a declarator.
@@ -253,10 +303,13 @@ impl<F: Fn(Global, &mut Cursor<'_>, u8, Wanted) -> Result<Phrase, ParseError>> G
             let found = self.declarator_from(cursor, token, pointers)?;
             return Ok(ReadParam::Named(found));
         }
-        if !are_bare(pointers.as_slice()) {
+        let is_bare = are_bare(pointers.as_slice());
+        let count = pointers.len();
+        drop(pointers);
+        if !is_bare {
             return Err(cursor.unexpected());
         }
-        let Ok(count) = u32::try_from(pointers.len()) else {
+        let Ok(count) = u32::try_from(count) else {
             return Err(ParseError::Memory);
         };
         let found = self.unnamed_from(cursor, count)?;

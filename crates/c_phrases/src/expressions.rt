@@ -8,6 +8,7 @@ ghost use Rattle.c_grammar.specs.ReadingExpr as spec;
 ghost use Rattle.c_grammar.specs.Levels.{readers};
 ghost use Rattle.c_grammar.specs.Nests.{Nests, most, state_of, seen};
 
+use crate::ends::ended;
 use crate::grammar::Grammar;
 use crate::structures::boxed_specs;
 use am_base::Bytes;
@@ -143,7 +144,7 @@ impl<F: Fn(Global, &mut Cursor<'_>, u8, Wanted) -> Result<Phrase, ParseError>> G
         let token = cursor.here();
         cursor.skip();
         let inner = self.inner_expr(cursor, Extent::Comma)?;
-        cursor.expect_mark(Mark::CloseParen)?;
+        let inner = ended(cursor, inner, Mark::CloseParen)?;
         let inner = Boxed::new(self.alloc, inner)?;
         Ok(Expr::Paren { token, inner })
     }
@@ -176,7 +177,7 @@ impl<F: Fn(Global, &mut Cursor<'_>, u8, Wanted) -> Result<Phrase, ParseError>> G
         let at = cursor.here();
         cursor.skip();
         let index = self.inner_expr(cursor, Extent::Comma)?;
-        cursor.expect_mark(Mark::CloseBracket)?;
+        let index = ended(cursor, index, Mark::CloseBracket)?;
         let index = Boxed::new(self.alloc, index)?;
         Ok(PostfixOp::Index { at, index })
     }
@@ -328,8 +329,13 @@ impl<F: Fn(Global, &mut Cursor<'_>, u8, Wanted) -> Result<Phrase, ParseError>> G
     {
         let token = cursor.here();
         let first = self.primary(cursor)?;
-        let operators = self.postfixes(cursor)?;
-        Ok(postfixed(self.alloc, token, first, operators)?)
+        match self.postfixes(cursor) {
+            Ok(operators) => Ok(postfixed(self.alloc, token, first, operators)?),
+            Err(e) => {
+                drop(first);
+                Err(e)
+            }
+        }
     }
 
     /// Reads a prefix operator and its operand (C11, 6.5.3).
@@ -341,8 +347,7 @@ impl<F: Fn(Global, &mut Cursor<'_>, u8, Wanted) -> Result<Phrase, ParseError>> G
     {
         let token = cursor.here();
         cursor.skip();
-        let operand = self.inner_expr(cursor, Extent::Unary)?;
-        let operand = Boxed::new(self.alloc, operand)?;
+        let operand = self.boxed_expr(cursor, Extent::Unary)?;
         Ok(Expr::Prefix { token, op, operand })
     }
 
@@ -361,8 +366,7 @@ impl<F: Fn(Global, &mut Cursor<'_>, u8, Wanted) -> Result<Phrase, ParseError>> G
             let type_name = Boxed::new(self.alloc, type_name)?;
             return Ok(Expr::SizeofType { token, type_name });
         }
-        let operand = self.inner_expr(cursor, Extent::Unary)?;
-        let operand = Boxed::new(self.alloc, operand)?;
+        let operand = self.boxed_expr(cursor, Extent::Unary)?;
         Ok(Expr::SizeofExpr { token, operand })
     }
 
@@ -375,10 +379,22 @@ impl<F: Fn(Global, &mut Cursor<'_>, u8, Wanted) -> Result<Phrase, ParseError>> G
     {
         cursor.expect_mark(Mark::OpenParen)?;
         let found = self.inner_specs(cursor)?;
-        let declarator = self.inner_unnamed(cursor)?;
-        cursor.expect_mark(Mark::CloseParen)?;
         let specs = boxed_specs(self.alloc, found.specs)?;
-        Ok(TypeName { specs, declarator })
+        let declarator = match self.inner_unnamed(cursor) {
+            Ok(declarator) => declarator,
+            Err(e) => {
+                drop(specs);
+                return Err(e);
+            }
+        };
+        match cursor.expect_mark(Mark::CloseParen) {
+            Ok(()) => Ok(TypeName { specs, declarator }),
+            Err(e) => {
+                drop(specs);
+                drop(declarator);
+                Err(e)
+            }
+        }
     }
 
     /// Reads `( typename ) unary` (C11, 6.5.4).
@@ -390,14 +406,18 @@ impl<F: Fn(Global, &mut Cursor<'_>, u8, Wanted) -> Result<Phrase, ParseError>> G
     {
         let token = cursor.here();
         let type_name = self.type_in_parens(cursor)?;
-        let operand = self.inner_expr(cursor, Extent::Unary)?;
         let type_name = Boxed::new(self.alloc, type_name)?;
-        let operand = Boxed::new(self.alloc, operand)?;
-        Ok(Expr::Cast {
-            token,
-            type_name,
-            operand,
-        })
+        match self.boxed_expr(cursor, Extent::Unary) {
+            Ok(operand) => Ok(Expr::Cast {
+                token,
+                type_name,
+                operand,
+            }),
+            Err(e) => {
+                drop(type_name);
+                Err(e)
+            }
+        }
     }
 
     /// Reads an operand with its prefix operators (C11, 6.5.3).
@@ -554,15 +574,19 @@ impl<F: Fn(Global, &mut Cursor<'_>, u8, Wanted) -> Result<Phrase, ParseError>> G
         let place = Boxed::new(self.alloc, first)?;
         let at = cursor.here();
         cursor.skip();
-        let value = self.inner_expr(cursor, Extent::Assign)?;
-        let value = Boxed::new(self.alloc, value)?;
-        Ok(Expr::Assign {
-            token,
-            place,
-            at,
-            op,
-            value,
-        })
+        match self.boxed_expr(cursor, Extent::Assign) {
+            Ok(value) => Ok(Expr::Assign {
+                token,
+                place,
+                at,
+                op,
+                value,
+            }),
+            Err(e) => {
+                drop(place);
+                Err(e)
+            }
+        }
     }
 
     /// Reads more expressions, each behind a comma.
@@ -594,8 +618,13 @@ impl<F: Fn(Global, &mut Cursor<'_>, u8, Wanted) -> Result<Phrase, ParseError>> G
     {
         let token = cursor.here();
         let first = self.assign(cursor)?;
-        let others = self.others(cursor)?;
-        Ok(listed(self.alloc, token, first, others)?)
+        match self.others(cursor) {
+            Ok(others) => Ok(listed(self.alloc, token, first, others)?),
+            Err(e) => {
+                drop(first);
+                Err(e)
+            }
+        }
     }
 
     /// Reads an expression that ends so (C11, 6.5).

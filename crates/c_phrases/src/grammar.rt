@@ -27,8 +27,25 @@ impl<F: Fn(Global, &mut Cursor<'_>, u8, Wanted) -> Result<Phrase, ParseError>> G
     {
         match (self.parse)(self.alloc, cursor, self.room, Wanted::Expr(extent))? {
             Phrase::Expr(expr) => Ok(expr),
-            _ => Err(ParseError::Memory),
+            other => {
+                drop(other);
+                Err(ParseError::Memory)
+            }
         }
+    }
+
+    /// The same, in a box.
+    pub fn boxed_expr(
+        &self,
+        cursor: &mut Cursor<'_>,
+        extent: Extent,
+    ) -> Result<Boxed<Expr>, ParseError>
+        requires { Nests self.now.room (F.pre self.now.parse) (F.post self.now.parse) }
+        ensures total { cursor.new.total ≡ cursor.old.total }
+        ensures reads { Gives (seen cursor.new) result ((readers cursor.old.total most self.now.room).expr extent (state_of cursor.old)) }
+    {
+        let expr = self.inner_expr(cursor, extent)?;
+        Ok(Boxed::new(self.alloc, expr)?)
     }
 
     /// Reads specifiers one level further in.
@@ -39,7 +56,10 @@ impl<F: Fn(Global, &mut Cursor<'_>, u8, Wanted) -> Result<Phrase, ParseError>> G
     {
         match (self.parse)(self.alloc, cursor, self.room, Wanted::Specs)? {
             Phrase::Specs(found) => Ok(found),
-            _ => Err(ParseError::Memory),
+            other => {
+                drop(other);
+                Err(ParseError::Memory)
+            }
         }
     }
 
@@ -51,7 +71,10 @@ impl<F: Fn(Global, &mut Cursor<'_>, u8, Wanted) -> Result<Phrase, ParseError>> G
     {
         match (self.parse)(self.alloc, cursor, self.room, Wanted::Declarator)? {
             Phrase::Declarator(found) => Ok(found),
-            _ => Err(ParseError::Memory),
+            other => {
+                drop(other);
+                Err(ParseError::Memory)
+            }
         }
     }
 
@@ -66,7 +89,10 @@ impl<F: Fn(Global, &mut Cursor<'_>, u8, Wanted) -> Result<Phrase, ParseError>> G
     {
         match (self.parse)(self.alloc, cursor, self.room, Wanted::Unnamed)? {
             Phrase::Unnamed(found) => Ok(found),
-            _ => Err(ParseError::Memory),
+            other => {
+                drop(other);
+                Err(ParseError::Memory)
+            }
         }
     }
 
@@ -78,7 +104,10 @@ impl<F: Fn(Global, &mut Cursor<'_>, u8, Wanted) -> Result<Phrase, ParseError>> G
     {
         match (self.parse)(self.alloc, cursor, self.room, Wanted::ParamDeclarator)? {
             Phrase::Param(found) => Ok(found),
-            _ => Err(ParseError::Memory),
+            other => {
+                drop(other);
+                Err(ParseError::Memory)
+            }
         }
     }
 
@@ -90,7 +119,10 @@ impl<F: Fn(Global, &mut Cursor<'_>, u8, Wanted) -> Result<Phrase, ParseError>> G
     {
         match (self.parse)(self.alloc, cursor, self.room, Wanted::TypeInParens)? {
             Phrase::TypeInParens(found) => Ok(found),
-            _ => Err(ParseError::Memory),
+            other => {
+                drop(other);
+                Err(ParseError::Memory)
+            }
         }
     }
 }

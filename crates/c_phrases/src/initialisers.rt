@@ -19,7 +19,8 @@ pub fn leave(cursor: &mut Cursor<'_>, len: usize) -> Result<(), ParseError>
     ensures reads { Gives (λ _. state_of cursor.new) result (Ok (left_to len (state_of cursor.old))) }
 {
     if cursor.names.len() > len {
-        let _inner = cursor.names.close(len)?;
+        let inner = cursor.names.close(len)?;
+        drop(inner);
     }
     Ok(())
 }
@@ -40,8 +41,13 @@ fn inits_end(cursor: &mut Cursor<'_>, items: Items<Init>) -> Result<Items<Init>,
     if cursor.sees_mark(Mark::Comma) {
         cursor.skip();
     }
-    cursor.expect_mark(Mark::CloseBrace)?;
-    Ok(items)
+    match cursor.expect_mark(Mark::CloseBrace) {
+        Ok(()) => Ok(items),
+        Err(e) => {
+            drop(items);
+            Err(e)
+        }
+    }
 }
 
 /// Reads the other initialisers of a list, and the brace that closes it.
@@ -81,8 +87,13 @@ fn inits(alloc: Global, cursor: &mut Cursor<'_>, room: u8) -> Result<Items<Init>
 {
     let first = init(alloc, cursor, room)?;
     let mut items = Items::new(alloc);
-    items.push(first)?;
-    more_inits(alloc, cursor, room, items)
+    match items.push(first) {
+        Ok(()) => more_inits(alloc, cursor, room, items),
+        Err(_) => {
+            drop(items);
+            Err(ParseError::Memory)
+        }
+    }
 }
 
 /// Reads an initialiser (C11, 6.7.9).
@@ -118,19 +129,32 @@ fn initialised(
     ensures reads { Gives (seen cursor.new) result
         (initialised cursor.old.total most room is_typedef declarator (state_of cursor.old)) }
 {
-    cursor.names.declare(declarator.name, is_typedef)?;
+    let ReadDeclarator { tree, name, own } = declarator;
+    drop(own);
+    match cursor.names.declare(name, is_typedef) {
+        Ok(()) => {}
+        Err(_) => {
+            drop(tree);
+            return Err(ParseError::Memory);
+        }
+    }
     if !cursor.sees_mark(Mark::Assign) {
         return Ok(InitDeclarator {
-            declarator: declarator.tree,
+            declarator: tree,
             init: None,
         });
     }
     cursor.skip();
-    let init = init(alloc, cursor, room)?;
-    Ok(InitDeclarator {
-        declarator: declarator.tree,
-        init: Some(init),
-    })
+    match init(alloc, cursor, room) {
+        Ok(init) => Ok(InitDeclarator {
+            declarator: tree,
+            init: Some(init),
+        }),
+        Err(e) => {
+            drop(tree);
+            Err(e)
+        }
+    }
 }
 
 /// Reads a declarator and its initialiser, if there is one.
@@ -192,8 +216,13 @@ fn all_declared(
 {
     let first = initialised(alloc, cursor, room, is_typedef, declarator)?;
     let mut declared = Items::new(alloc);
-    declared.push(first)?;
-    more_declared(alloc, cursor, room, is_typedef, declared)
+    match declared.push(first) {
+        Ok(()) => more_declared(alloc, cursor, room, is_typedef, declared),
+        Err(_) => {
+            drop(declared);
+            Err(ParseError::Memory)
+        }
+    }
 }
 
 /// Reads a declaration on from behind its first declarator.
@@ -210,12 +239,18 @@ pub fn decl_from(
     ensures reads { Gives (seen cursor.new) result
         (decl_from cursor.old.total most room token specs declarator (state_of cursor.old)) }
 {
-    let declared = all_declared(alloc, cursor, room, specs.is_typedef, declarator)?;
-    Ok(Decl {
-        token,
-        specs: specs.specs,
-        declared,
-    })
+    let ReadSpecs { specs, is_typedef } = specs;
+    match all_declared(alloc, cursor, room, is_typedef, declarator) {
+        Ok(declared) => Ok(Decl {
+            token,
+            specs,
+            declared,
+        }),
+        Err(e) => {
+            drop(specs);
+            Err(e)
+        }
+    }
 }
 
 /// A declaration that is specifiers alone.
@@ -244,10 +279,16 @@ fn decl_behind(
 {
     if cursor.sees_mark(Mark::Semicolon) {
         cursor.skip();
-        return Ok(bare(alloc, token, specs.specs));
+        let ReadSpecs { specs, .. } = specs;
+        return Ok(bare(alloc, token, specs));
     }
-    let declarator = declarator(alloc, cursor, room)?;
-    decl_from(alloc, cursor, room, token, specs, declarator)
+    match declarator(alloc, cursor, room) {
+        Ok(declarator) => decl_from(alloc, cursor, room, token, specs, declarator),
+        Err(e) => {
+            drop(specs);
+            Err(e)
+        }
+    }
 }
 
 /// Reads a declaration (C11, 6.7).

@@ -81,7 +81,10 @@ pub fn expr(
 {
     match phrase(alloc, cursor, room, Wanted::Expr(extent))? {
         Phrase::Expr(expr) => Ok(expr),
-        _ => Err(ParseError::Memory),
+        other => {
+            drop(other);
+            Err(ParseError::Memory)
+        }
     }
 }
 
@@ -92,7 +95,10 @@ pub fn specs(alloc: Global, cursor: &mut Cursor<'_>, room: u8) -> Result<ReadSpe
 {
     match phrase(alloc, cursor, room, Wanted::Specs)? {
         Phrase::Specs(specs) => Ok(specs),
-        _ => Err(ParseError::Memory),
+        other => {
+            drop(other);
+            Err(ParseError::Memory)
+        }
     }
 }
 
@@ -107,6 +113,9 @@ pub fn declarator(
 {
     match phrase(alloc, cursor, room, Wanted::Declarator)? {
         Phrase::Declarator(declarator) => Ok(declarator),
-        _ => Err(ParseError::Memory),
+        other => {
+            drop(other);
+            Err(ParseError::Memory)
+        }
     }
 }

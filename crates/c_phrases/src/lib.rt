@@ -2,6 +2,7 @@
 #![tactic(auto)]
 
 mod declarators;
+mod ends;
 mod expressions;
 mod grammar;
 mod initialisers;
@@ -10,5 +11,6 @@ mod parameters;
 mod specifiers;
 mod structures;
 
+pub use ends::ended;
 pub use initialisers::{bare, decl, decl_from, leave};
 pub use levels::{declarator, expr, specs};

@@ -1,12 +1,14 @@
 //! Parameters, and the suffixes of declarators (C11, 6.7.6).
 
-ghost use Rattle.std.specs.Prelude.{◌≡◌, [], Ok, length, IfOk};
+ghost use Rattle.std.specs.Prelude.{◌≡◌, [], Ok, length};
+ghost use Rattle.c_ast.specs.declared.declaration.Param.TheVariants as param;
 ghost use Rattle.c_grammar.specs.Reading.{Gives};
 ghost use Rattle.c_grammar.specs.ReadingDecl.{with_declared, parameter, parameters, function, suffixes};
 ghost use Rattle.c_grammar.specs.Levels.{readers};
 ghost use Rattle.c_grammar.specs.Nests.{Nests, most, state_of, seen};
 
 use crate::grammar::Grammar;
+use crate::structures::boxed_specs;
 use c_ast::{DirectSuffix, Param, Specifier, Specs};
 use c_grammar::{
     Cursor, OwnNames, ParseError, Phrase, ReadDeclarator, ReadParam, Scope, Wanted, sees_keyword,
@@ -14,28 +16,36 @@ use c_grammar::{
 };
 use c_lex::{Keyword, Mark};
 use sqlite_items::{Boxed, Items};
-use std::alloc::{AllocError, Global};
+use std::alloc::Global;
 
-/// The same specifiers, each in a box.
-fn boxed(alloc: Global, specs: Specs<Specifier>) -> Result<Specs<Boxed<Specifier>>, AllocError>
-    ensures { IfOk result (λ same. same ≡ specs) }
+/// A parameter with a name, which is declared.
+fn named(
+    alloc: Global,
+    cursor: &mut Cursor<'_>,
+    specs: Specs<Boxed<Specifier>>,
+    found: ReadDeclarator,
+) -> Result<Param, ParseError>
+    ensures total { cursor.new.total ≡ cursor.old.total }
+    ensures reads { Gives (seen cursor.new) result (Ok (param.Named specs found.tree, with_declared found.name (state_of cursor.old))) }
 {
-    let Specs {
-        token,
-        mut specifiers,
-    } = specs;
-    let mut turned: Items<Boxed<Specifier>> = Items::new(alloc);
-    'boxed: while let Some(last) = specifiers.pop() {
-        turned.push(Boxed::new(alloc, last)?)?;
+    let ReadDeclarator { tree, name, own } = found;
+    drop(own);
+    let declarator = match Boxed::new(alloc, tree) {
+        Ok(declarator) => declarator,
+        Err(_) => {
+            drop(specs);
+            drop(name);
+            return Err(ParseError::Memory);
+        }
+    };
+    match cursor.names.declare(name, false) {
+        Ok(()) => Ok(Param::Named { specs, declarator }),
+        Err(_) => {
+            drop(specs);
+            drop(declarator);
+            Err(ParseError::Memory)
+        }
     }
-    let mut all = Items::new(alloc);
-    'turned: while let Some(first) = turned.pop() {
-        all.push(first)?;
-    }
-    Ok(Specs {
-        token,
-        specifiers: all,
-    })
 }
 
 impl<F: Fn(Global, &mut Cursor<'_>, u8, Wanted) -> Result<Phrase, ParseError>> Grammar<F> {
@@ -47,16 +57,13 @@ impl<F: Fn(Global, &mut Cursor<'_>, u8, Wanted) -> Result<Phrase, ParseError>> G
         ensures reads { Gives (seen cursor.new) result (parameter cursor.old.total (readers cursor.old.total most self.now.room) (state_of cursor.old)) }
     {
         let found = self.inner_specs(cursor)?;
-        match self.inner_param(cursor)? {
-            ReadParam::Named(ReadDeclarator { tree, name, .. }) => {
-                let specs = boxed(self.alloc, found.specs)?;
-                let declarator = Boxed::new(self.alloc, tree)?;
-                cursor.names.declare(name, false)?;
-                Ok(Param::Named { specs, declarator })
-            }
-            ReadParam::Unnamed(declarator) => {
-                let specs = boxed(self.alloc, found.specs)?;
-                Ok(Param::Unnamed { specs, declarator })
+        let specs = boxed_specs(self.alloc, found.specs)?;
+        match self.inner_param(cursor) {
+            Ok(ReadParam::Named(found)) => named(self.alloc, cursor, specs, found),
+            Ok(ReadParam::Unnamed(declarator)) => Ok(Param::Unnamed { specs, declarator }),
+            Err(e) => {
+                drop(specs);
+                Err(e)
             }
         }
     }
@@ -106,6 +113,7 @@ impl<F: Fn(Global, &mut Cursor<'_>, u8, Wanted) -> Result<Phrase, ParseError>> G
         }
         if cursor.sees_keyword(Keyword::Void) && sees_mark(Mark::CloseParen, tail(cursor.rest)) {
             if self.room == 0 {
+                drop(own);
                 return Err(cursor.too_deep());
             }
             cursor.skip();
@@ -114,11 +122,23 @@ impl<F: Fn(Global, &mut Cursor<'_>, u8, Wanted) -> Result<Phrase, ParseError>> G
             return Ok((DirectSuffix::Void { at }, own));
         }
         let before = cursor.names.len();
-        let params = self.parameters(cursor, limit)?;
+        let params = match self.parameters(cursor, limit) {
+            Ok(params) => params,
+            Err(e) => {
+                drop(own);
+                return Err(e);
+            }
+        };
         // names are only added, so there are no fewer than before
         let before = before.min(cursor.names.len());
-        let added = cursor.names.close(before)?;
-        Ok((DirectSuffix::Params { at, params }, own.settled(added)))
+        match cursor.names.close(before) {
+            Ok(added) => Ok((DirectSuffix::Params { at, params }, own.settled(added))),
+            Err(_) => {
+                drop(params);
+                drop(own);
+                Err(ParseError::Memory)
+            }
+        }
     }
 
     /// Reads the suffixes of a declarator that come next.

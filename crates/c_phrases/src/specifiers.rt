@@ -121,6 +121,7 @@ fn ended_specs(
     ensures { Gives (seen cursor.now) result (ended_specs cursor.now.total token (typed_of so_far.now) so_far.now.is_typedef specifiers (state_of cursor.now)) }
 {
     if so_far.is_untyped() {
+        drop(specifiers);
         return Err(cursor.unexpected());
     }
     Ok(ReadSpecs {

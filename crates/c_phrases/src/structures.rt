@@ -24,6 +24,27 @@ fn declare(alloc: Global, cursor: &mut Cursor<'_>, name: &Name) -> Result<(), Pa
     Ok(())
 }
 
+/// An enumerator, which is declared.
+fn declared(
+    alloc: Global,
+    cursor: &mut Cursor<'_>,
+    name: Name,
+    value: Option<Boxed<Expr>>,
+) -> Result<Enumerator<Boxed<Expr>>, ParseError>
+    ensures total { cursor.new.total ≡ cursor.old.total }
+    ensures reads { Gives (λ _. state_of cursor.new) result (Ok (with_declared name.text (state_of cursor.old))) }
+    ensures same { IfOk result (λ found. found ≡ record { name = name; value = value }) }
+{
+    match declare(alloc, cursor, &name) {
+        Ok(()) => Ok(Enumerator { name, value }),
+        Err(e) => {
+            drop(name);
+            drop(value);
+            Err(e)
+        }
+    }
+}
+
 /// The same specifiers, each in a box of its own.
 pub fn boxed_specs(
     alloc: Global,
@@ -59,7 +80,9 @@ impl<F: Fn(Global, &mut Cursor<'_>, u8, Wanted) -> Result<Phrase, ParseError>> G
         let mut count = cursor.rest.len();
         'declarators: while count > 0 {
             count -= 1;
-            let ReadDeclarator { tree, .. } = self.inner_declarator(cursor)?;
+            let ReadDeclarator { tree, name, own } = self.inner_declarator(cursor)?;
+            drop(name);
+            drop(own);
             all.push(tree)?;
             if !cursor.sees_mark(Mark::Comma) {
                 cursor.expect_mark(Mark::Semicolon)?;
@@ -77,10 +100,15 @@ impl<F: Fn(Global, &mut Cursor<'_>, u8, Wanted) -> Result<Phrase, ParseError>> G
         ensures total { cursor.new.total ≡ cursor.old.total }
         ensures reads { Gives (seen cursor.new) result (member cursor.old.total (readers cursor.old.total most self.now.room) (state_of cursor.old)) }
     {
-        let specs = self.inner_specs(cursor)?;
-        let specs = boxed_specs(self.alloc, specs.specs)?;
-        let declarators = self.members_declared(cursor)?;
-        Ok(Member { specs, declarators })
+        let found = self.inner_specs(cursor)?;
+        let specs = boxed_specs(self.alloc, found.specs)?;
+        match self.members_declared(cursor) {
+            Ok(declarators) => Ok(Member { specs, declarators }),
+            Err(e) => {
+                drop(specs);
+                Err(e)
+            }
+        }
     }
 
     /// Reads members, and the brace that closes them.
@@ -102,7 +130,9 @@ impl<F: Fn(Global, &mut Cursor<'_>, u8, Wanted) -> Result<Phrase, ParseError>> G
             }
         }
         // the end of the tokens, which may be nested too deeply
-        let _more = self.member(cursor)?;
+        drop(all);
+        let more = self.member(cursor)?;
+        drop(more);
         Err(cursor.unexpected())
     }
 
@@ -118,13 +148,24 @@ impl<F: Fn(Global, &mut Cursor<'_>, u8, Wanted) -> Result<Phrase, ParseError>> G
         ensures total { cursor.new.total ≡ cursor.old.total }
         ensures reads { Gives (seen cursor.new) result (struct_body cursor.old.total (readers cursor.old.total most self.now.room) token name (state_of cursor.old)) }
     {
-        cursor.expect_mark(Mark::OpenBrace)?;
-        let members = self.members(cursor)?;
-        Ok(StructSpec::Body {
-            token,
-            name,
-            members,
-        })
+        match cursor.expect_mark(Mark::OpenBrace) {
+            Ok(()) => {}
+            Err(e) => {
+                drop(name);
+                return Err(e);
+            }
+        }
+        match self.members(cursor) {
+            Ok(members) => Ok(StructSpec::Body {
+                token,
+                name,
+                members,
+            }),
+            Err(e) => {
+                drop(name);
+                Err(e)
+            }
+        }
     }
 
     /// Reads `struct` and what is behind it (C11, 6.7.2.1).
@@ -158,17 +199,16 @@ impl<F: Fn(Global, &mut Cursor<'_>, u8, Wanted) -> Result<Phrase, ParseError>> G
     {
         let name = cursor.expect_name(self.alloc)?;
         if !cursor.sees_mark(Mark::Assign) {
-            declare(self.alloc, cursor, &name)?;
-            return Ok(Enumerator { name, value: None });
+            return declared(self.alloc, cursor, name, None);
         }
         cursor.skip();
-        let value = self.inner_expr(cursor, Extent::Cond)?;
-        let value = Boxed::new(self.alloc, value)?;
-        declare(self.alloc, cursor, &name)?;
-        Ok(Enumerator {
-            name,
-            value: Some(value),
-        })
+        match self.boxed_expr(cursor, Extent::Cond) {
+            Ok(value) => declared(self.alloc, cursor, name, Some(value)),
+            Err(e) => {
+                drop(name);
+                Err(e)
+            }
+        }
     }
 
     /// Reads the braces of an enumeration.
@@ -183,16 +223,28 @@ impl<F: Fn(Global, &mut Cursor<'_>, u8, Wanted) -> Result<Phrase, ParseError>> G
         ensures total { cursor.new.total ≡ cursor.old.total }
         ensures reads { Gives (seen cursor.new) result (enum_body cursor.old.total self.now.room (readers cursor.old.total most self.now.room) token name (state_of cursor.old)) }
     {
-        cursor.expect_mark(Mark::OpenBrace)?;
+        match cursor.expect_mark(Mark::OpenBrace) {
+            Ok(()) => {}
+            Err(e) => {
+                drop(name);
+                return Err(e);
+            }
+        }
         if self.room == 0 {
+            drop(name);
             return Err(cursor.too_deep());
         }
-        let enumerators = self.enumerators(cursor)?;
-        Ok(EnumSpec::Body {
-            token,
-            name,
-            enumerators,
-        })
+        match self.enumerators(cursor) {
+            Ok(enumerators) => Ok(EnumSpec::Body {
+                token,
+                name,
+                enumerators,
+            }),
+            Err(e) => {
+                drop(name);
+                Err(e)
+            }
+        }
     }
 
     /// Reads enumerators, and the brace that closes them.

@@ -1,3 +1,5 @@
+//! Making units of the heap zero.
+
 ghost use Rattle.std.specs.Prelude.{◌≡◌, ◌+◌, ◌*◌, ◌≤◌, length};
 ghost use Rattle.rank_range.specs.Layout.{range_bytes};
 ghost use Rattle.isomalloc.specs.Heap.{AreZero};

@@ -7,4 +7,5 @@ pub mod Kinds
 pub mod Operators
 pub mod Output
 pub mod Areas
+pub mod Formats
 pub mod Library

@@ -1,3 +1,5 @@
+//! A rank's memory as one block of bytes.
+
 ghost use Rattle.std.specs.Prelude.{◌≡◌, ◌+◌, ◌-◌, ◌≤◌, ℕ, true, length, slice_index, IfOk};
 ghost use Rattle.rank_range.specs.Layout.{base_of, range_bytes, stack_start};
 

@@ -1,3 +1,5 @@
+//! Words and offsets as lists.
+
 ghost use Rattle.std.specs.Prelude.{◌≡◌, [], ◌∷◌, ◌++◌, length, OnOk, OnErr};
 
 use std::alloc::{AllocError, Global};

@@ -1,3 +1,5 @@
+//! What the memory of a rank is.
+
 ghost use Rattle.std.specs.Prelude.{◌≡◌, ◌↔◌, ◌+◌, ◌-◌, ◌<◌, ◌≤◌, ◌^◌, ℕ, Bool, List, length, replicate, IsTrue, IfOk, OnOk, OnErr};
 ghost use Rattle.rank_range.specs.Layout.{Accessible, base_of, range_bytes, stack_start, IsRange, IsZeroed, IsMarked, MarksChanges};
 ghost use Rattle.rank_range.specs.Numbers.{bytes_in, number_at, with_number};

@@ -1,3 +1,5 @@
+//! Numbers in bytes, the lowest byte first.
+
 ghost use Rattle.std.specs.Prelude.{◌≡◌, ◌+◌, ◌≤◌, ◌<◌, ◌^◌, length};
 ghost use Rattle.rank_range.specs.Numbers.{bytes_in, number_at, with_number, AreLoadedBack, OthersStay, LengthStays};
 

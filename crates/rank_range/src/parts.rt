@@ -1,3 +1,5 @@
+//! Parts of a list of bytes.
+
 ghost use Rattle.std.specs.Prelude.{◌≡◌, ◌+◌, ◌≤◌, length, replicate};
 ghost use Rattle.rank_range.specs.Parts.{part, with_part};
 

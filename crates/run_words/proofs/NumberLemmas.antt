@@ -8,7 +8,7 @@ use Rattle.std.specs.List.{list_all}
 use Rattle.std.specs.Result.{OkIff, result_ok}
 use Rattle.std.specs.Str.Parse.{ParsesUnsigned}
 use Rattle.run_words.specs.Words.{is_digit, number_of}
-use Rattle.run_words.specs.Reading.{is_number, is_ranks_value, ranks_said, is_ticks_value, ticks_said}
+use Rattle.run_words.specs.steps.Reading.{is_number, is_ranks_value, ranks_said, is_ticks_value, ticks_said}
 
 -- the number that digits spell behind those of another
 abbrev number_after : ℕ → List ℕ → ℕ

@@ -13,7 +13,7 @@ use Rattle.std.specs.Str.{bytes_eq}
 use Rattle.run_words.specs.Asks.{IsJournalOf}
 use Rattle.run_words.specs.Words.{Part, words_of, IsPlain, IsNumber, IsWellFormed, is_digit, number_of, sources_in, ranks_in, ticks_in, journals_in, Chooses, Asked, AskForRun}
 use Rattle.run_words.specs.Words.Part.{Source, Ranks, Ticks, Journal}
-use Rattle.run_words.specs.Reading.{Said, nothing_said, is_number, is_plain, is_ranks_value, is_ticks_value, with_file, with_ranks, with_ticks, with_journal, said_with, asked_by, asked_of}
+use Rattle.run_words.specs.steps.Reading.{Said, nothing_said, is_number, is_plain, is_ranks_value, is_ticks_value, with_file, with_ranks, with_ticks, with_journal, said_with, asked_by, asked_of}
 
 -- the tests of one word
 

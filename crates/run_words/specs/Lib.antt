@@ -1,4 +1,3 @@
 pub mod Asks
-pub mod Reading
-pub mod Views
 pub mod Words
+pub mod steps

@@ -66,13 +66,13 @@ events_of_turn ranks procs is_loss turn =
 abbrev pub losses_after : ℕ → ℕ → Turn → ℕ
 losses_after procs losses turn = if makes_loss procs losses turn then losses + 1 else losses
 
--- the events of turns, in order, where so many losses were made before
+-- the events of turns, in order, where n losses were made before
 unfoldable pub events_of : ℕ → ℕ → ℕ → List Turn → List Event
 events_of ranks procs losses [] = []
 events_of ranks procs losses (turn ∷ turns) =
     events_of_turn ranks procs (makes_loss procs losses turn) turn ++ events_of ranks procs (losses_after procs losses turn) turns
 
--- The first events of so many turns. Each turn makes an event at least, so as many turns as events are enough.
+-- The first events of n turns. Each turn makes an event at least, so as many turns as events are enough.
 abbrev pub first_events : ℕ → ℕ → ℕ → ℕ → ℕ → List Event
 first_events seed turn_count count ranks procs = take count (events_of ranks procs 0 (turns turn_count (generator_of seed)))
 

@@ -137,7 +137,7 @@ abbrev pub with_told : List Event → Option Event → List Event
 with_told events None = events
 with_told events (Some event) = events ++ event ∷ []
 
--- what the text is, with these lines left, behind so many lines and the events that they tell
+-- what the text is, with these lines left, behind n lines and the events that they tell
 unfoldable pub answer_behind : ℕ → List Event → List (List ℕ) → Answer
 answer_behind n events [] = Events events
 answer_behind n events (line ∷ lines) =

@@ -1,3 +1,5 @@
+//! Why a schedule was not read.
+
 ghost use Rattle.std.specs.Prelude.{◌≡◌};
 ghost use Rattle.schedule.specs.declared.error.SchedError.TheVariants.{Memory};
 

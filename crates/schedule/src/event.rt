@@ -1,3 +1,5 @@
+//! The events of a run.
+
 /// How a `balance` event places the ranks.
 #[derive(Clone, Copy, Debug, PartialEq, Eq)]
 pub enum Strategy {
@@ -12,7 +14,7 @@ pub enum Strategy {
 /// One event of a schedule. A number may be that of no rank and no processor: such an event is skipped in a run.
 #[derive(Clone, Copy, Debug, PartialEq, Eq)]
 pub enum Event {
-    /// The rank runs so many ticks, or fewer where it then can't tick.
+    /// The rank runs this number of ticks, or fewer where it then can't tick.
     Run { rank: u32, ticks: u32 },
     /// The packet at this place, modulo their count, arrives.
     Deliver { place: u32 },

@@ -1,3 +1,5 @@
+//! One event from the words of its line.
+
 ghost use Rattle.std.specs.Prelude.{◌≡◌};
 ghost use Rattle.schedule.specs.Reading.{strategy_in, lone_event, numbered_event, event_with_one, event_with_two, event_in, is_first};
 

@@ -1,3 +1,5 @@
+//! The lines of a text.
+
 ghost use Rattle.std.specs.Prelude.{◌≡◌, ◌<◌, [], length};
 ghost use Rattle.std.specs.List.{prefix_len, list_all};
 ghost use Rattle.schedule.specs.Grammar.{is_in_line, without_cr, is_blank, is_skipped, begins_with_hash};

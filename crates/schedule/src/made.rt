@@ -1,3 +1,5 @@
+//! Made schedules.
+
 ghost use Rattle.std.specs.Prelude.{◌≡◌, ◌≤◌, ◌<◌, ◌++◌, IfOk, OnOk};
 ghost use Rattle.rand_pcg.specs.Lcg.{Lcg};
 ghost use Rattle.schedule.specs.Made.{made, drawn, saves, block, strategy_of, makes_loss, loss, single_event, events_of_turn, TurnsSuffice};
@@ -15,7 +17,7 @@ struct Turn {
     second: u32,
 }
 
-/// Makes the first `count` events of the seed's schedule, for so many ranks and processors. The table of turns is this
+/// Makes the first `count` events of the seed's schedule, for a number of ranks and of processors. The table of turns is this
 /// profile's own.
 pub fn make(
     alloc: Global,

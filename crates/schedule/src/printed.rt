@@ -1,3 +1,5 @@
+//! The text of a schedule.
+
 ghost use Rattle.std.specs.Prelude.{◌≡◌, ◌≤◌, ◌++◌, length, codes, IfOk, OnOk};
 ghost use Rattle.std.specs.Fmt.{decimal};
 ghost use Rattle.schedule.specs.Grammar.{IsSchedule, most_events, parts_of, strategy_name};

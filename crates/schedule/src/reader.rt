@@ -1,3 +1,5 @@
+//! Reading a schedule.
+
 ghost use Rattle.std.specs.Prelude.{◌≡◌, ℕ, ◌+◌, ◌<◌, ◌≤◌, ◌^◌, List, [], length, IfOk, IfSome, IsErrOf, option_map};
 ghost use Rattle.schedule.specs.Grammar.{IsSchedule, IsAnswered, Answer, Bad, Many};
 ghost use Rattle.schedule.specs.Results.{Gives};
@@ -62,7 +64,7 @@ fn behind_first(text: &[u8]) -> Option<(u32, &[u8])>
     None
 }
 
-/// The events of the lines behind the first, where so many lines were passed.
+/// The events of the lines behind the first, where `passed` lines were passed.
 fn read_events(alloc: Global, text: &[u8], passed: u32) -> Result<Vec<Event>, SchedError>
     requires { passed + length text.now < 2 ^ 32 }
     ensures { Gives result (answer_behind passed [] (lines_of text.now)) }

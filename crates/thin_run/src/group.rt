@@ -3,9 +3,9 @@ ghost use Rattle.thin_run.specs.Group.{setting, Stand, AddsRun, AddsRound, AddsD
 
 use crate::rank::Rank;
 use am_base::RankId;
+use mpi_types::{Entry, EntryRun, History};
 use std::alloc::AllocError;
-use vm_code::Compiled;
-use w_model::{Entry, EntryRun, History};
+use thin_code::Compiled;
 
 /// How many ticks each rank gets in a round.
 const TICKS_IN_ROUND: u64 = 1000;
@@ -27,7 +27,9 @@ fn run_rank(
     let rank = &mut ranks[at];
     let taken = rank.run(compiled, TICKS_IN_ROUND, bound)?;
     history.push(EntryRun {
-        entry: Entry::Tick(RankId(at as u16)),
+        entry: Entry::Tick {
+            rank: RankId(at as u16),
+        },
         times: taken,
     })?;
     Ok(taken)

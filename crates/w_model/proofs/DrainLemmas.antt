@@ -5,8 +5,8 @@ use Rattle.std.proofs.lemmas.Bool.Decides.{eqb_tells}
 use Rattle.std.proofs.lemmas.List.{append-nil}
 use Rattle.std.specs.Prelude.{replicate}
 use Rattle.std.specs.List.{range_with_len}
-use Rattle.w_model.specs.declared.entries.Entry.{Entry}
-use Rattle.w_model.specs.declared.entries.Entry.TheVariants.{Tick, Match, Gather, Commit}
+use Rattle.mpi_types.specs.declared.entries.Entry.{Entry}
+use Rattle.mpi_types.specs.declared.entries.Entry.TheVariants.{Tick, Match, Gather, Commit}
 use Rattle.w_model.specs.World.{Setting, World, MayTick, IsStep, after, after_all, world_of, IsLegalFrom, start_world}
 use Rattle.w_model.specs.Cut.{rank_numbers, HasNoMark, cut, before_cut, released_from, released_at}
 use Rattle.w_model.specs.Whole.{MarkedDrainsAreWhole}
@@ -23,14 +23,11 @@ IsLegalFrom-append s w (e ∷ xs) ys first rest = (first.0, IsLegalFrom-append s
 
 pub HasNoMark-append : (xs ys : List Entry) → HasNoMark xs → HasNoMark ys → HasNoMark (xs ++ ys)
 HasNoMark-append [] ys first rest = rest
-HasNoMark-append (Tick r ∷ xs) ys first rest = HasNoMark-append xs ys first rest
-HasNoMark-append (Match r request sender ∷ xs) ys first rest = HasNoMark-append xs ys first rest
-HasNoMark-append (Gather r ∷ xs) ys first rest = HasNoMark-append xs ys first rest
-HasNoMark-append (Commit ∷ xs) ys first rest = absurd first
+HasNoMark-append (e ∷ xs) ys first rest = (first.0, HasNoMark-append xs ys first.1 rest)
 
 ticks-unmarked : (n r : ℕ) → HasNoMark (replicate n (tick_of r))
 ticks-unmarked zero r = tt
-ticks-unmarked (suc n) r = ticks-unmarked n r
+ticks-unmarked (suc n) r = (refl, ticks-unmarked n r)
 
 run-unmarked : (s : Setting) (w : World) (r k : ℕ) (added : List Entry) → IsRunOf s w r k added → HasNoMark added
 run-unmarked s w r k added run = rw run.added_is (ticks-unmarked run.ticks r)
@@ -108,10 +105,7 @@ cut-marked (e ∷ body) = ap (before_cut e) (cut-marked body) ∙ before-some e 
 released-marked : (s : Setting) (marked w : World) (body : List Entry) → HasNoMark body
     → released_from s marked w (body ++ Commit ∷ []) ≡ released_at s marked (after_all w body)
 released-marked s marked w [] none = append-nil (released_at s marked w)
-released-marked s marked w (Tick r ∷ body) none = released-marked s marked (after w (Tick r)) body none
-released-marked s marked w (Match r request sender ∷ body) none = released-marked s marked (after w (Match r request sender)) body none
-released-marked s marked w (Gather r ∷ body) none = released-marked s marked (after w (Gather r)) body none
-released-marked s marked w (Commit ∷ body) none = absurd none
+released-marked s marked w (e ∷ body) none = rw none.0 (released-marked s marked (after w e) body none.1)
 
 pub marked-whole : MarkedDrainsAreWhole
 marked-whole s body drain =
@@ -120,7 +114,7 @@ marked-whole s body drain =
     let P : World → Type 0 = λ w. (e : Entry) → IsStep s w e → ⊥ in
     record {
       marked = record { body = body; history_is = refl; unmarked = whole.2; drained = drain };
-      legal = IsLegalFrom-append s start_world body (Commit ∷ []) whole.0 (tt, tt);
+      legal = IsLegalFrom-append s start_world body (Commit ∷ []) whole.0 (λ mark. cc, tt);
       stuck = subst P (sym same) whole.1;
       same_world = same;
       all_kept = cut-marked body;

@@ -1,7 +1,7 @@
 -- What the parts of a closing drain add to a history.
 use Rattle.std.specs.Prelude.{ℕ, ◌≡◌, ◌≢◌, ◌<◌, ◌≤◌, List, [], ◌∷◌, ◌++◌, replicate}
-use Rattle.w_model.specs.declared.entries.Entry.{Entry}
-use Rattle.w_model.specs.declared.entries.Entry.TheVariants.{Tick}
+use Rattle.mpi_types.specs.declared.entries.Entry.{Entry}
+use Rattle.mpi_types.specs.declared.entries.Entry.TheVariants.{Tick}
 use Rattle.w_model.specs.World.{Setting, World, MayTick, after_all, IsLegal, IsLegalFrom, IsStuck, start_world}
 use Rattle.w_model.specs.Cut.{rank_numbers, HasNoMark}
 

@@ -1,78 +1,21 @@
--- The texts that tell of a history: its journal, and the report on its ranks.
+-- The report that tells of a history.
 use Rattle.std.specs.Prelude.{ℕ, ◌+◌, ◌==◌, if◌then◌else◌, Bool, true, false, Option, Some, None, List, [], ◌∷◌, ◌++◌, replicate, codes}
 use Rattle.std.specs.List.{flat_map, list_any, position}
 use Rattle.std.specs.Fmt.{decimal, signed_decimal}
-use Rattle.c_model.specs.declared.tree.Ending.{Ending}
-use Rattle.c_model.specs.declared.tree.Ending.TheVariants.{Paused, Ended, Trapped}
-use Rattle.c_model.specs.declared.tree.TrapCause.{TrapCause}
-use Rattle.c_model.specs.declared.tree.TrapCause.TheVariants.{DivisionByZero, DivisionOverflow, ShiftCount, TextLimit}
-use Rattle.w_model.specs.declared.entries.Entry.{Entry}
-use Rattle.w_model.specs.declared.entries.Entry.TheVariants.{Tick, Match, Gather, Commit}
-use Rattle.w_model.specs.declared.entries.EntryRun.{EntryRun}
+use Rattle.am_base.specs.Traps.{trap_text}
+use Rattle.thin_model.specs.declared.tree.Ending.{Ending}
+use Rattle.thin_model.specs.declared.tree.Ending.TheVariants.{Paused, Ended, Trapped}
+use Rattle.mpi_types.specs.declared.entries.Entry.{Entry}
 use Rattle.w_model.specs.declared.report.End.{End}
 use Rattle.w_model.specs.declared.report.End.TheVariants.{Done, Deadlock, OutOfTicks, Trapped as AnyTrapped}
 use Rattle.w_model.specs.World.{Setting, World, world_of, outcome_at}
 use Rattle.w_model.specs.Cut.{rank_numbers}
 
--- the second entry may stand in one run with the first: both are ticks of one rank
-abbrev pub are_one_run : Entry → Entry → Bool
-are_one_run (Tick r) (Tick q) = r.0 == q.0
-are_one_run (Tick r) (Match q request sender) = false
-are_one_run (Tick r) (Gather q) = false
-are_one_run (Tick r) Commit = false
-are_one_run (Match r request sender) e = false
-are_one_run (Gather r) e = false
-are_one_run Commit e = false
-
--- an entry before runs: one more of the first run, where it may stand in that one
-abbrev pub run_before : Entry → List EntryRun → List EntryRun
-run_before e [] = record { entry = e; times = 1 } ∷ []
-run_before e (run ∷ runs) =
-    if are_one_run e run.entry then record { entry = run.entry; times = run.times + 1 } ∷ runs
-    else record { entry = e; times = 1 } ∷ run ∷ runs
-
--- A history as runs of equal entries: as many ticks of one rank as stand in a row are one run, and any other entry is
--- a run of its own.
-abbrev pub runs_of : List Entry → List EntryRun
-runs_of [] = []
-runs_of (e ∷ h) = run_before e (runs_of h)
-
--- the entries that runs stand for
-abbrev pub entries_of : List EntryRun → List Entry
-entries_of runs = flat_map (λ run. replicate run.times run.entry) runs
-
--- the journal's line of a run
-abbrev pub run_line : Entry → ℕ → List ℕ
-run_line (Tick r) times = codes "T " ++ decimal r.0 ++ codes " " ++ decimal times ++ codes "\n"
-run_line (Match r request sender) times =
-    codes "M " ++ decimal r.0 ++ codes " " ++ decimal request ++ codes " " ++ decimal sender.0 ++ codes "\n"
-run_line (Gather r) times = codes "G " ++ decimal r.0 ++ codes "\n"
-run_line Commit times = codes "C\n"
-
--- the lines of runs
-abbrev pub run_lines : List EntryRun → List ℕ
-run_lines runs = flat_map (λ run. run_line run.entry run.times) runs
-
--- the journal's first line: the number of ranks and the bound on ticks
-abbrev pub header_line : ℕ → ℕ → List ℕ
-header_line ranks bound = codes "ampi-journal 1 " ++ decimal ranks ++ codes " " ++ decimal bound ++ codes "\n"
-
--- the journal of a history
-abbrev pub journal_text : Setting → List Entry → List ℕ
-journal_text s h = header_line s.ranks s.bound ++ run_lines (runs_of h)
-
--- why a rank was trapped
-abbrev pub cause_text : TrapCause → List ℕ
-cause_text DivisionByZero = codes "division by zero"
-cause_text DivisionOverflow = codes "division overflow"
-cause_text ShiftCount = codes "shift count"
-cause_text TextLimit = codes "text limit"
-
 -- what a rank did: it ended with a status, was trapped in the file, is at the bound on ticks, or waits
 abbrev pub state_text : List ℕ → Ending → ℕ → ℕ → List ℕ
 state_text file (Ended status) ticks bound = codes " ended " ++ signed_decimal status
 state_text file (Trapped why) ticks bound =
-    codes " trapped " ++ cause_text why.cause ++ codes " at " ++ file ++ codes ":" ++ decimal why.line
+    codes " trapped " ++ trap_text why.cause ++ codes " at " ++ file ++ codes ":" ++ decimal why.line
 state_text file Paused ticks bound = if ticks == bound then codes " at bound" else codes " waiting"
 
 -- the report's line of a rank

@@ -1,7 +1,7 @@
 -- A whole run: a drain and then the one mark.
 use Rattle.std.specs.Prelude.{◌≡◌, List, [], ◌∷◌, ◌++◌}
-use Rattle.w_model.specs.declared.entries.Entry.{Entry}
-use Rattle.w_model.specs.declared.entries.Entry.TheVariants.{Commit}
+use Rattle.mpi_types.specs.declared.entries.Entry.{Entry}
+use Rattle.mpi_types.specs.declared.entries.Entry.TheVariants.{Commit}
 use Rattle.w_model.specs.World.{Setting, start_world, world_of, IsLegal, IsStuck}
 use Rattle.w_model.specs.Cut.{HasNoMark, cut, released_at, released_lines}
 use Rattle.w_model.specs.Drain.{IsDrain}
@@ -13,9 +13,9 @@ pub record IsMarkedDrain (s : Setting) (h : List Entry) : Type 0 where
   pub unmarked : HasNoMark body
   pub drained : IsDrain s start_world body
 
--- A drain and its mark are legal and end where the run is stuck; all of it is up to the mark, and the mark releases
+-- A drain and its mark close a run: they are legal and end where the run is stuck; all of it is up to the mark, and the mark releases
 -- all that was printed.
-pub record IsWhole (s : Setting) (body : List Entry) : Type 0 where
+pub record ClosesRun (s : Setting) (body : List Entry) : Type 0 where
   pub marked : IsMarkedDrain s (body ++ Commit ∷ [])
   pub legal : IsLegal s (body ++ Commit ∷ [])
   pub stuck : IsStuck s (body ++ Commit ∷ [])
@@ -24,4 +24,4 @@ pub record IsWhole (s : Setting) (body : List Entry) : Type 0 where
   pub released : released_lines s (body ++ Commit ∷ []) ≡ released_at s start_world (world_of body)
 
 abbrev pub MarkedDrainsAreWhole : Type 0
-MarkedDrainsAreWhole = (s : Setting) (body : List Entry) → IsDrain s start_world body → IsWhole s body
+MarkedDrainsAreWhole = (s : Setting) (body : List Entry) → IsDrain s start_world body → ClosesRun s body

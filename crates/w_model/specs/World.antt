@@ -1,11 +1,12 @@
 -- A history of a run, the world after it, and which entries may stand where. It speaks of ranks that never move, each
 -- with a private memory, and of nothing else: no processors, no packets, no copies.
-use Rattle.std.specs.Prelude.{ℕ, ◌≡◌, ◌+◌, ◌<◌, ◌==◌, if◌then◌else◌, List, [], ◌∷◌}
-use Rattle.c_model.specs.declared.tree.Program.{Program}
-use Rattle.c_model.specs.Run.{Answer, Outcome, run_of}
-use Rattle.c_model.specs.declared.tree.Ending.TheVariants.{Paused}
-use Rattle.w_model.specs.declared.entries.Entry.{Entry}
-use Rattle.w_model.specs.declared.entries.Entry.TheVariants.{Tick, Match, Gather, Commit}
+use Rattle.std.specs.Prelude.{ℕ, ◌≡◌, ◌+◌, ◌<◌, ◌==◌, if◌then◌else◌, Bool, true, false, List, [], ◌∷◌}
+use Rattle.thin_model.specs.declared.tree.Program.{Program}
+use Rattle.thin_model.specs.Run.{Answer, Outcome, run_of}
+use Rattle.thin_model.specs.declared.tree.Ending.TheVariants.{Paused}
+use Rattle.mpi_types.specs.declared.entries.Entry.{Entry}
+use Rattle.mpi_types.specs.Runs.{is_mark}
+use Rattle.mpi_types.specs.declared.entries.Entry.TheVariants.{Tick, Match, Gather, Commit}
 
 -- What a run is given: its program, how many ranks run it, and how many ticks each may take.
 pub record Setting : Type 0 where
@@ -67,11 +68,9 @@ IsStep s w (Match r request sender) = ⊥
 IsStep s w (Gather r) = ⊥
 IsStep s w Commit = ⊥
 
+-- an entry that isn't a mark is a step
 abbrev pub MayStand : Setting → World → Entry → Type 0
-MayStand s w (Tick r) = IsStep s w (Tick r)
-MayStand s w (Match r request sender) = IsStep s w (Match r request sender)
-MayStand s w (Gather r) = IsStep s w (Gather r)
-MayStand s w Commit = Unit {0}
+MayStand s w e = is_mark e ≡ false → IsStep s w e
 
 -- each entry but a mark is a step at the world of the entries before it
 abbrev pub IsLegalFrom : Setting → World → List Entry → Type 0

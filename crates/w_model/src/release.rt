@@ -1,11 +1,12 @@
+//! The lines of what a rank printed.
 ghost use Rattle.std.specs.Prelude.{◌≡◌, ◌++◌, OnOk, IfOk};
-ghost use Rattle.c_model.specs.Lines.{whole_lines, unfinished, last_line};
+ghost use Rattle.thin_model.specs.Lines.{whole_lines, unfinished, last_line};
 ghost use Rattle.std.specs.List.{flat_map};
-ghost use Rattle.w_model.specs.Cut.{released_line};
+ghost use Rattle.am_base.specs.Released.{released_line};
 
-use am_base::{Bytes, RankId, decimal};
-use c_model::Ending;
+use am_base::{Bytes, RankId, append_released};
 use std::alloc::AllocError;
+use thin_model::Ending;
 
 /// The bytes after which a line ends by itself.
 const LINE_LIMIT: usize = 4096;
@@ -22,7 +23,9 @@ pub fn append_lines(
 {
     let rest = append_whole_lines(out, rank, text)?;
     match ending {
-        Ending::Ended(_) | Ending::Trapped(_) if !rest.is_empty() => append_line(out, rank, rest),
+        Ending::Ended(_) | Ending::Trapped(_) if !rest.is_empty() => append_released(
+            out, rank, rest,
+        ),
         _ => Ok(()),
     }
 }
@@ -39,22 +42,12 @@ fn append_whole_lines<'a>(
     let mut start = 0;
     for (i, byte) in text.iter().enumerate() {
         if *byte == b'\n' {
-            append_line(out, rank, &text[start..i])?;
+            append_released(out, rank, &text[start..i])?;
             start = i + 1;
         } else if i - start == LINE_LIMIT - 1 {
-            append_line(out, rank, &text[start..i + 1])?;
+            append_released(out, rank, &text[start..i + 1])?;
             start = i + 1;
         }
     }
     Ok(&text[start..])
-}
-
-fn append_line(out: &mut Bytes, rank: RankId, line: &[u8]) -> Result<(), AllocError>
-    ensures { OnOk result (out.new ≡ out.old ++ released_line rank.0 line.now) }
-{
-    out.append(b"[")?;
-    decimal(out, u64::from(rank.0))?;
-    out.append(b"] ")?;
-    out.append(line)?;
-    out.append(b"\n")
 }

@@ -1,9 +1,10 @@
+//! The report: how each rank stands, and how the run ended.
 ghost use Rattle.std.specs.Prelude.{◌≡◌, ◌++◌, OnOk};
-ghost use Rattle.w_model.specs.Texts.{rank_line, state_text, cause_text, end_line};
+ghost use Rattle.w_model.specs.Texts.{rank_line, state_text, end_line};
 
 use am_base::{Bytes, ProcId, RankId, decimal, signed_decimal};
-use c_model::{Ending, TrapCause};
 use std::alloc::AllocError;
+use thin_model::Ending;
 
 /// How a run that is stuck ended.
 #[derive(Clone, Copy, Debug, PartialEq, Eq)]
@@ -61,7 +62,7 @@ fn append_state(
         }
         Ending::Trapped(why) => {
             out.append(b" trapped ")?;
-            out.append(cause_text(why.cause))?;
+            out.append(why.cause.text())?;
             out.append(b" at ")?;
             out.append(file)?;
             out.append(b":")?;
@@ -69,17 +70,6 @@ fn append_state(
         }
         Ending::Paused if standing.ticks == bound => out.append(b" at bound"),
         Ending::Paused => out.append(b" waiting"),
-    }
-}
-
-fn cause_text(cause: TrapCause) -> &'static [u8]
-    ensures { result.now ≡ cause_text cause }
-{
-    match cause {
-        TrapCause::DivisionByZero => b"division by zero",
-        TrapCause::DivisionOverflow => b"division overflow",
-        TrapCause::ShiftCount => b"shift count",
-        TrapCause::TextLimit => b"text limit",
     }
 }
 

@@ -1,7 +1,7 @@
 use Rattle.std.proofs.Common.{◌+◌, ◌++◌, take, drop, arith, sym}
 use Rattle.std.proofs.Math.Seq.{take-add}
 use Rattle.std.proofs.lemmas.List.{take_rest}
-use Rattle.am_io.specs.Pieces.{Appends-append, Appends-same}
+use Rattle.am_io.proofs.PieceLemmas.{Appends-append, Appends-same}
 use Rattle.am_io.proofs.host.write_whole.Goals as goal
 
 pub loop-done-preserved : goal.loop-done-preserved

@@ -1,5 +1,18 @@
-use Rattle.ampi.proofs.PutLemmas.{on-err, put-all, put-journal, put-lines, put-report, said-part}
+use Rattle.am_io.proofs.PieceLemmas.{AppendsPart-nothing}
+use Rattle.ampi.proofs.PutLemmas.{on-err, said-part}
+use Rattle.ampi.proofs.RunLemmas.{put-all, put-header, put-header-whole, put-journal, put-lines, put-report}
 use Rattle.ampi.proofs.run.put_run.Goals as goal
+
+pub returns-in_err-say-clause-part : goal.returns-in_err-say-clause-part
+returns-in_err-say-clause-part g c =
+    let part = said-part c.say.result _ _ _ _ c.in_err-say.was c.say.ensures.failed c.say.ensures.memory in
+    let header = rw (c.as_slice.ensures, c.in_ok-header.ensures) at part in
+    on-err _ _ (put-header _ _ _ _ _ header)
+
+pub returns-in_err-told-clause-part : goal.returns-in_err-told-clause-part
+returns-in_err-told-clause-part g c =
+    let header = rw (c.as_slice.ensures, c.in_ok-header.ensures) at c.in_ok-say.ensures.ok in
+    on-err _ _ (put-header-whole _ _ _ _ _ header)
 
 pub returns-in_err-say-2-clause-part : goal.returns-in_err-say-2-clause-part
 returns-in_err-say-2-clause-part g c =

@@ -1,4 +1,4 @@
-use Rattle.std.proofs.Common.{arith, ◌≤◌, ◌<◌, length}
+use Rattle.std.proofs.Common.{arith, ◌≤◌, ◌<◌, length, ap, ◌∙◌, Err}
 use Rattle.ampi.specs.Answers.{source_limit}
 use Rattle.ampi.proofs.AnswerLemmas.{told-too-long, told-cannot-read}
 use Rattle.ampi.proofs.top.run_file.Goals as goal
@@ -19,4 +19,4 @@ returns-in-Ok-2-clause-answers g c = λ words asked.
 pub returns-in-Err-Failed-clause-answers : goal.returns-in-Err-Failed-clause-answers
 returns-in-Err-Failed-clause-answers g c = λ words asked.
     c.refuse_file-in-Err-Failed.ensures.told words _ _
-    (rw c.as_str-name.ensures.value (told-cannot-read words (g.F.Files.held c.args.files.now) c.args.command.now asked))
+    (rw c.as_str-name.ensures.value (told-cannot-read words _ _ c.args.command.now asked (c.load.ensures.failed (c.in-Err-Failed.is ∙ ap Err c.in-Err-Failed.field-0-is))))

@@ -1,7 +1,7 @@
 use Rattle.std.proofs.Common.{◌≡◌, None, refl}
 use Rattle.run_words.specs.Words.{Asked, AskForRun}
 use Rattle.run_words.specs.Asks.{bytes_of_words}
-use Rattle.run_words.specs.Views.{asked_in}
+use Rattle.run_words.specs.steps.Views.{asked_in}
 use Rattle.run_words.proofs.ReadingLemmas.{asks_for, none_asked, journal_if_some, journal_if_none, IfNone-from}
 use Rattle.run_words.proofs.command.journal_name.Goals as goal
 

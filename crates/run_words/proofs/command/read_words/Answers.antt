@@ -1,6 +1,6 @@
 use Rattle.std.proofs.Common.{sym, ap, ◌∙◌, refl}
 use Rattle.std.specs.Option.{option_map}
-use Rattle.run_words.specs.Views.{asked_in}
+use Rattle.run_words.specs.steps.Views.{asked_in}
 use Rattle.run_words.proofs.ReadingLemmas.{asks_for, none_asked, None-from_is_some}
 use Rattle.run_words.proofs.command.read_words.Goals as goal
 

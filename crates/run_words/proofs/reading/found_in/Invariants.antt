@@ -1,6 +1,6 @@
 use Rattle.std.proofs.Common.{◌≡◌, length, map, string_bytes}
-use Rattle.run_words.specs.Reading.{nothing_said, said_with}
-use Rattle.run_words.specs.Views.{said_by}
+use Rattle.run_words.specs.steps.Reading.{nothing_said, said_with}
+use Rattle.run_words.specs.steps.Views.{said_by}
 use Rattle.run_words.proofs.reading.found_in.Given as goal
 
 abbrev pub invariant-loop-word : goal.invariant-loop-word

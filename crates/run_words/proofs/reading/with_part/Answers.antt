@@ -1,7 +1,7 @@
 use Rattle.std.proofs.Common.{◌∷◌, sym, ap, ◌∙◌, map, string_bytes}
 use Rattle.std.specs.Prelude.{option_and_then}
-use Rattle.run_words.specs.Reading.{said_with}
-use Rattle.run_words.specs.Views.{said_by}
+use Rattle.run_words.specs.steps.Reading.{said_with}
+use Rattle.run_words.specs.steps.Views.{said_by}
 use Rattle.run_words.proofs.ReadingLemmas.{said_with-file, said_with-ranks, said_with-ticks, said_with-journal}
 use Rattle.run_words.proofs.reading.with_part.Goals as goal
 

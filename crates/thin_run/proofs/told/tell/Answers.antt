@@ -2,7 +2,8 @@ use Rattle.std.proofs.Common.{ap, ◌∙◌, ◌++◌}
 use Rattle.std.specs.List.{flat_map}
 use Rattle.w_model.specs.World.{world_of, start_world}
 use Rattle.w_model.specs.Cut.{released_at, rank_numbers}
-use Rattle.w_model.specs.Texts.{run_lines, rank_line_at, end_line}
+use Rattle.w_model.specs.Texts.{rank_line_at, end_line}
+use Rattle.mpi_types.specs.Journal.{run_lines}
 use Rattle.thin_run.specs.Told.{on_first}
 use Rattle.thin_run.proofs.told.tell.Goals as goal
 

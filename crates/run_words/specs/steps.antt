@@ -1,0 +1,3 @@
+-- The steps by which the words are read, for private functions.
+pub mod Reading
+pub mod Views

@@ -1,6 +1,0 @@
-use Rattle.std.proofs.Common.{◌≡◌, ◌++◌, take}
-use Rattle.w_model.specs.Texts.{run_lines}
-use Rattle.w_model.proofs.journal.append_runs.Given as goal
-
-abbrev pub invariant-loop-run : goal.invariant-loop-run
-invariant-loop-run l = l.out ≡ l.initial.out ++ run_lines (take l.run-index l.runs)

@@ -1,0 +1,8 @@
+//! Trees as text: each node is a word in parentheses, with its parts behind it.
+
+mod expressions;
+mod page;
+mod units;
+mod words;
+
+pub use units::shown;

@@ -1,0 +1,5 @@
+int main(void) {
+  printf("whole\nbegun");
+  while (1)
+    ;
+}
