@@ -26,7 +26,7 @@ failed=0
 # the libraries of the repository that a crate stands on, built by what is kept on the machine
 build_below() {
   local below
-  for below in $(sed -n "s/^$1[^:]*: *//p" crates.txt); do
+  for below in $(sed -n "s/^$1\( [^:]*\)\?: *//p" crates.txt); do
     [ ! -d "crates/$below" ] || (cd "$place/checkout/crates/$below" && rt lib --jobs 1) >"$place/log" 2>&1 || return 1
   done
 }

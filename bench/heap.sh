@@ -7,7 +7,7 @@ while read -r pattern blocks turns calls; do
   taken=$(taken_by heap "$blocks" "$turns" "$pattern") || exit 1
   echo "$pattern: $((taken / (turns * calls))) nanoseconds a call (mean of $((turns * calls)))"
 done <<'PATTERNS'
-fill 4000 5 8000
-sawtooth 100 2000 200
-random 200 200000 1
+fill 4000 20 8000
+sawtooth 100 10000 200
+random 200 1000000 1
 PATTERNS

@@ -4,7 +4,7 @@
 set -u
 . "$(dirname "${BASH_SOURCE[0]}")/timing.sh"
 # a shape, its parts, the tokens of a part, and how often the source is read
-rows=("flat 5000 20 10" "flat 50000 20 2" "deep 800 126 10" "deep 8000 126 2" "names 1000 10 10" "names 10000 10 2")
+rows=("flat 5000 20 10" "flat 50000 20 2" "deep 800 126 10" "deep 8000 126 2" "names 1000 10 100" "names 10000 10 2")
 for row in "${rows[@]}"; do
   read -r shape parts tokens reads <<<"$row"
   all=$(taken_by parse "$parts" "$reads" "$shape") || exit 1

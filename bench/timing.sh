@@ -9,17 +9,16 @@ program_of() {
   echo "$program"
 }
 
-# the time of one run of a program with these words, in nanoseconds
+# the processor time of one run of a program with these words, in nanoseconds, to the millisecond
 time_of() {
-  local start end
-  start=$(date +%s%N)
-  "$@" >/dev/null || { echo "bench: the run failed: $*" >&2; return 1; }
-  end=$(date +%s%N)
-  echo $((end - start))
+  local TIMEFORMAT='%3U %3S' seconds user system
+  seconds=$({ time "$@" >/dev/null 2>&1; } 2>&1) || { echo "bench: the run failed: $*" >&2; return 1; }
+  read -r user system <<<"$seconds"
+  echo "$((10#${user/./} + 10#${system/./}))000000"
 }
 
-# The nanoseconds that the turns of a figure of crates/bench take: its name, its size, its turns and maybe its kind. The time of a run
-# without a turn is taken off.
+# The nanoseconds of processor time that the turns of a figure of crates/bench take: its name, its size, its turns and maybe its kind.
+# The time of a run without a turn is taken off.
 taken_by() {
   local program name=$1 size=$2 turns=$3 none all
   shift 3

@@ -16,7 +16,7 @@ pub enum Failed {
 
 impl Failed {
     /// What the process ends with.
-    pub fn code(self) -> ExitCode {
+    pub(crate) fn code(self) -> ExitCode {
         ExitCode::from(match self {
             Failed::Words => 1,
             Failed::Output => 2,

@@ -1,6 +1,6 @@
 //! Blocks of a rank's heap are taken and given back.
 ghost use Rattle.std.specs.Prelude.{IfOk};
-ghost use Rattle.isomalloc.specs.Heap.{HasHeap};
+ghost use Rattle.rank_range.specs.Nodes.{HasHeap};
 
 use crate::failed::Failed;
 use am_base::RankId;
@@ -20,7 +20,7 @@ pub enum Pattern {
 }
 
 impl Pattern {
-    pub fn of(kind: &str) -> Option<Pattern> {
+    pub(crate) fn of(kind: &str) -> Option<Pattern> {
         match kind {
             "fill" => Some(Pattern::Fill),
             "sawtooth" => Some(Pattern::Sawtooth),
@@ -32,7 +32,7 @@ impl Pattern {
 
 /// How many calls are made in so many turns with so many blocks: two a block, and one a turn where they have no order. The heap must
 /// answer each with a block, or with its return.
-pub fn calls_answered(
+pub(crate) fn calls_answered(
     alloc: Global,
     pattern: Pattern,
     blocks: u32,

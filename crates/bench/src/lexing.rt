@@ -14,7 +14,7 @@ char *hinted = \"a\\tb\", c = 'x';
 ";
 
 /// How many tokens are read in so many turns, from a source of so many times 256 bytes. One of 2^31 bytes or more isn't read.
-pub fn tokens_in(alloc: Global, parts: u32, turns: u32) -> Result<u64, Failed> {
+pub(crate) fn tokens_in(alloc: Global, parts: u32, turns: u32) -> Result<u64, Failed> {
     let source = source_of(alloc, parts)?;
     let bytes = source.as_str().as_bytes();
     if bytes.len() >= 1 << 31 {
@@ -45,7 +45,7 @@ fn tokens_of(alloc: Global, source: &[u8]) -> Result<u64, Failed>
 }
 
 /// What it is for the figure that a source has no tokens.
-pub fn failed_by(error: LexError) -> Failed {
+pub(crate) fn failed_by(error: LexError) -> Failed {
     match error {
         LexError::Memory => Failed::Memory,
         _ => Failed::Refused,

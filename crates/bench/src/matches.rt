@@ -15,7 +15,7 @@ const WAITING: i32 = 1;
 const TAKEN: i32 = 2;
 
 /// How many matches of so many are made behind a queue of that length.
-pub fn made_behind(alloc: Global, queue: u32, turns: u32) -> Result<u64, Failed> {
+pub(crate) fn made_behind(alloc: Global, queue: u32, turns: u32) -> Result<u64, Failed> {
     Ok(matches_behind(alloc, queue, turns)? as u64)
 }
 

@@ -19,7 +19,7 @@ pub enum Shape {
 }
 
 impl Shape {
-    pub fn of(kind: &str) -> Option<Shape> {
+    pub(crate) fn of(kind: &str) -> Option<Shape> {
         match kind {
             "flat" => Some(Shape::Flat),
             "deep" => Some(Shape::Deep),
@@ -33,7 +33,12 @@ impl Shape {
 const DEPTH: u32 = 62;
 
 /// How many functions and declarations are read in so many turns, from a source of so many parts.
-pub fn externals_in(alloc: Global, shape: Shape, parts: u32, turns: u32) -> Result<u64, Failed> {
+pub(crate) fn externals_in(
+    alloc: Global,
+    shape: Shape,
+    parts: u32,
+    turns: u32,
+) -> Result<u64, Failed> {
     let tokens = tokens_of(alloc, shape, parts)?;
     if tokens.len() >= 1 << 32 {
         return Err(Failed::Words);

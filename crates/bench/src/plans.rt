@@ -17,7 +17,7 @@ pub enum Rule {
 }
 
 impl Rule {
-    pub fn of(kind: &str) -> Option<Rule> {
+    pub(crate) fn of(kind: &str) -> Option<Rule> {
         match kind {
             "rotate" => Some(Rule::Rotate),
             "greedy" => Some(Rule::Greedy),
@@ -28,7 +28,12 @@ impl Rule {
 }
 
 /// How many places are planned in so many turns for so many ranks, of which there are fewer than 65,536.
-pub fn places_planned(alloc: Global, rule: Rule, ranks: u32, turns: u32) -> Result<u64, Failed> {
+pub(crate) fn places_planned(
+    alloc: Global,
+    rule: Rule,
+    ranks: u32,
+    turns: u32,
+) -> Result<u64, Failed> {
     let Ok(ranks) = u16::try_from(ranks) else {
         return Err(Failed::Words);
     };

@@ -7,7 +7,7 @@ use std::alloc::Global;
 
 /// How many events are read in so many turns, from the text of so many made ones for 256 ranks on 64 processors. A text of 2^32 bytes or
 /// more isn't read.
-pub fn events_read(alloc: Global, events: u32, turns: u32) -> Result<u64, Failed> {
+pub(crate) fn events_read(alloc: Global, events: u32, turns: u32) -> Result<u64, Failed> {
     let made = make(alloc, 1, events, 256, 64)?;
     let text = print(alloc, &made)?;
     if text.as_slice().len() >= 1 << 32 {

@@ -41,7 +41,7 @@ pub const SMALL: [(Figure, u32, u32); 12] = [
 
 impl Work {
     /// The work that the words name: a figure, its size, how often it is done, and its kind where it has several.
-    pub fn of(words: &[String]) -> Option<Work> {
+    pub(crate) fn of(words: &[String]) -> Option<Work> {
         let (name, size, turns, kind) = match words {
             [name, size, turns] => (name, size, turns, ""),
             [name, size, turns, kind] => (name, size, turns, kind.as_str()),
@@ -55,7 +55,7 @@ impl Work {
     }
 
     /// How much was counted while the work was done.
-    pub fn done(self, alloc: Global) -> Result<u64, Failed> {
+    pub(crate) fn done(self, alloc: Global) -> Result<u64, Failed> {
         match self.figure {
             Figure::Lex => lexing::tokens_in(alloc, self.size, self.turns),
             Figure::Parse(shape) => parsing::externals_in(alloc, shape, self.size, self.turns),
@@ -67,7 +67,7 @@ impl Work {
     }
 
     /// The figure's name, and what is counted.
-    pub fn names(self) -> (&'static str, &'static str) {
+    pub(crate) fn names(self) -> (&'static str, &'static str) {
         match self.figure {
             Figure::Lex => ("lex", "tokens"),
             Figure::Parse(Shape::Flat) => ("parse flat", "functions and declarations"),

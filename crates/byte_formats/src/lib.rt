@@ -5,6 +5,7 @@
 mod cursor;
 mod fields;
 mod laws;
+mod order;
 mod plain;
 mod spelling;
 
@@ -17,5 +18,6 @@ pub use laws::{
     bytes_spell_one_value, choices_are_formats, fields_are_formats, list_formats_are_formats,
     made_formats_are_formats,
 };
+pub use order::ascend;
 pub use plain::{Number8, Number16, Number32, Number64, Signed32, Text};
 pub use spelling::{Spelling, put_many, put_option, spell, take_many, take_option, unspell};

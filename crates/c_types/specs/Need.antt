@@ -2,12 +2,10 @@
 -- this profile's own.
 use Rattle.std.specs.Prelude.{ℕ, ◌≡◌, ◌+◌, ◌<◌, max, List, [], ◌∷◌, ◌++◌, Option, Some, None}
 use Rattle.std.specs.List.{flat_map, Contains}
+use Rattle.c_types.specs.declared.expression.Operand.{Operand, fold-Operand}
+use Rattle.c_types.specs.declared.expression.Operand.TheOpen.{Operand-F, Step-F, Expr-F}
+use Rattle.c_types.specs.declared.expression.Step.{Step, fold-Step}
 use Rattle.c_types.specs.declared.expression.Expr.{Expr, fold-Expr}
-use Rattle.c_types.specs.declared.expression.Expr.TheOpen.{Expr-F}
-use Rattle.c_types.specs.declared.expression.Operand.{Operand}
-use Rattle.c_types.specs.declared.expression.Operand.TheVariants as operand
-use Rattle.c_types.specs.declared.expression.Step.{Step}
-use Rattle.c_types.specs.declared.expression.Step.TheVariants as step
 use Rattle.c_types.specs.declared.expression.Counted.{Counted}
 use Rattle.c_types.specs.declared.expression.Counted.TheVariants as counted
 use Rattle.c_types.specs.declared.expression.FullExpr.{FullExpr}
@@ -29,13 +27,13 @@ in_arguments before (n ∷ ns) = max (before + n) (in_arguments (before + 1) ns)
 abbrev pub in_call : List ℕ → ℕ
 in_call ns = max 1 (in_arguments 0 ns)
 
-abbrev pub in_operand : Operand ℕ → ℕ
-in_operand (operand.Number word) = 1
-in_operand (operand.Local offset) = 1
-in_operand (operand.Object number) = 1
-in_operand (operand.Call function ns) = in_call ns
-in_operand (operand.Library call ns) = in_call ns
-in_operand (operand.Mpi call ns) = in_call ns
+abbrev pub operand_step : Operand-F ℕ (ℕ → ℕ) ℕ → ℕ
+operand_step (Operand-F.Number word) = 1
+operand_step (Operand-F.Local offset) = 1
+operand_step (Operand-F.Object number) = 1
+operand_step (Operand-F.Call function ns) = in_call ns
+operand_step (Operand-F.Library call ns) = in_call ns
+operand_step (Operand-F.Mpi call ns) = in_call ns
 
 -- The need of `a` and `b`, where the value of `a` is pending while `b` is evaluated.
 abbrev pub one_above : ℕ → ℕ → ℕ
@@ -50,37 +48,44 @@ abbrev pub in_count : Counted → ℕ → ℕ
 in_count (counted.Number kind) a = two_above a 1
 in_count (counted.Pointer scale) a = max 4 (two_above a 1)
 
--- the need of a value, and of a step behind it
-abbrev pub behind : ℕ → Step ℕ → ℕ
-behind a (step.Load kind) = a
-behind a (step.Convert from to) = a
-behind a (step.Unary op kind) = a
-behind a step.Not = a
-behind a (step.Member offset) = max 2 a
-behind a (step.Binary op kind b) = one_above a b
-behind a (step.Greater kind b) = one_above a b
-behind a (step.AtLeast kind b) = one_above a b
-behind a (step.Offset by scale b) = max 3 (one_above a b)
-behind a (step.Difference size b) = max 3 (one_above a b)
-behind a (step.And b) = max a b
-behind a (step.Or b) = max a b
-behind a (step.Conditional b c) = max a (max b c)
-behind a (step.Comma b) = max a b
-behind a (step.Assign kind b) = one_above a b
-behind a (step.Copy size b) = one_above a b
-behind a (step.Update op kind at b) = two_above a b
-behind a (step.Advance direction scale b) = max 4 (two_above a b)
-behind a (step.Count counted direction given) = in_count counted a
+-- the need of a value and of the step behind it, by that of the value
+abbrev pub step_step : Step-F ℕ (ℕ → ℕ) ℕ → ℕ → ℕ
+step_step (Step-F.Load kind) a = a
+step_step (Step-F.Convert from to) a = a
+step_step (Step-F.Unary op kind) a = a
+step_step Step-F.Not a = a
+step_step (Step-F.Member offset) a = max 2 a
+step_step (Step-F.Binary op kind b) a = one_above a b
+step_step (Step-F.Greater kind b) a = one_above a b
+step_step (Step-F.AtLeast kind b) a = one_above a b
+step_step (Step-F.Offset by scale b) a = max 3 (one_above a b)
+step_step (Step-F.Difference size b) a = max 3 (one_above a b)
+step_step (Step-F.And b) a = max a b
+step_step (Step-F.Or b) a = max a b
+step_step (Step-F.Conditional b c) a = max a (max b c)
+step_step (Step-F.Comma b) a = max a b
+step_step (Step-F.Assign kind b) a = one_above a b
+step_step (Step-F.Copy size b) a = one_above a b
+step_step (Step-F.Update op kind at b) a = two_above a b
+step_step (Step-F.Advance direction scale b) a = max 4 (two_above a b)
+step_step (Step-F.Count counted direction given) a = in_count counted a
 
-abbrev pub behind_all : ℕ → List (Step ℕ) → ℕ
+-- the steps one behind the other
+abbrev pub behind_all : ℕ → List (ℕ → ℕ) → ℕ
 behind_all a [] = a
-behind_all a (s ∷ ss) = behind_all (behind a s) ss
+behind_all a (s ∷ ss) = behind_all (s a) ss
 
-abbrev pub need_step : Expr-F ℕ → ℕ
-need_step e = behind_all (in_operand e.first) e.steps
+abbrev pub expr_step : Expr-F ℕ (ℕ → ℕ) ℕ → ℕ
+expr_step e = behind_all e.first e.steps
+
+unfoldable pub need_first : Operand → ℕ
+need_first = fold-Operand ℕ (ℕ → ℕ) ℕ operand_step step_step expr_step
+
+unfoldable pub need_behind : Step → ℕ → ℕ
+need_behind = fold-Step ℕ (ℕ → ℕ) ℕ operand_step step_step expr_step
 
 unfoldable pub need_of : Expr → ℕ
-need_of = fold-Expr ℕ need_step
+need_of = fold-Expr ℕ (ℕ → ℕ) ℕ operand_step step_step expr_step
 
 -- how many values may be pending
 abbrev pub pending_limit : ℕ

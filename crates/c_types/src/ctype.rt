@@ -1,3 +1,5 @@
+//! The types of C.
+
 use am_base::Bytes;
 use rank_range::{Kind, Width};
 use sqlite_items::Items;

@@ -1,3 +1,5 @@
+//! Expressions of the typed program.
+
 use am_base::{LibCall, MpiCall};
 use rank_range::{Binary, Kind, Unary};
 use sqlite_items::{Boxed, Items};
@@ -7,15 +9,17 @@ use sqlite_items::{Boxed, Items};
 ///
 /// Each value is a word of 64 bits, that of a number of some `Kind` or an address. A place (C11, 6.3.2.1) has its address
 /// as its value, so `&`, `*`, and the decay of an array change nothing and have no step.
+#[cycle(tree)]
 #[derive(Debug, Drop)]
 pub struct Expr {
-    pub first: Operand<Boxed<Expr>>,
-    pub steps: Items<Step<Boxed<Expr>>>,
+    pub first: Operand,
+    pub steps: Items<Step>,
 }
 
 /// What an expression begins with.
+#[cycle(tree)]
 #[derive(Debug, Drop)]
-pub enum Operand<E> {
+pub enum Operand {
     /// A constant, by its word: a number, a character, an enumerator, a size, a constant of a header.
     Number(u64),
     /// The address of a local, by its offset in the frame.
@@ -23,16 +27,26 @@ pub enum Operand<E> {
     /// The address of a static object or a string, by its number.
     Object(u32),
     /// A call of a function of the program, by its number. Each argument has the type of its parameter.
-    Call { function: u32, arguments: Items<E> },
+    Call {
+        function: u32,
+        arguments: Items<Expr>,
+    },
     /// A call of the C library.
-    Library { call: LibCall, arguments: Items<E> },
+    Library {
+        call: LibCall,
+        arguments: Items<Expr>,
+    },
     /// A call of MPI.
-    Mpi { call: MpiCall, arguments: Items<E> },
+    Mpi {
+        call: MpiCall,
+        arguments: Items<Expr>,
+    },
 }
 
 /// What is done with a value. The word `value` below is the one so far; `right` is evaluated behind it.
+#[cycle(tree)]
 #[derive(Debug, Drop)]
-pub enum Step<E> {
+pub enum Step {
     /// The number of this kind at the address `value`, as C11, 6.3.2.1 has it of a place. A pointer is an unsigned long.
     Load(Kind),
     /// A conversion or a cast between whole types or pointers.
@@ -55,55 +69,55 @@ pub enum Step<E> {
     Binary {
         op: Binary,
         kind: Kind,
-        right: E,
+        right: Boxed<Expr>,
     },
     /// `>`
     Greater {
         kind: Kind,
-        right: E,
+        right: Boxed<Expr>,
     },
     /// `>=`
     AtLeast {
         kind: Kind,
-        right: E,
+        right: Boxed<Expr>,
     },
     /// `a[b]`, `p + n`, `n + p` and `p - n`: an address, and a number times so many bytes.
     Offset {
         by: OffsetBy,
         scale: u64,
-        right: E,
+        right: Boxed<Expr>,
     },
     /// `p - q`, in elements of so many bytes.
     Difference {
         size: u64,
-        right: E,
+        right: Boxed<Expr>,
     },
     /// `&&`
     And {
-        right: E,
+        right: Boxed<Expr>,
     },
     /// `||`
     Or {
-        right: E,
+        right: Boxed<Expr>,
     },
     /// `value ? then : otherwise`
     Conditional {
-        then: E,
-        otherwise: E,
+        then: Boxed<Expr>,
+        otherwise: Boxed<Expr>,
     },
     /// `,`: the value so far is dropped.
     Comma {
-        right: E,
+        right: Boxed<Expr>,
     },
     /// `=`: a number of this kind is stored at the address `value`, and is the value.
     Assign {
         kind: Kind,
-        right: E,
+        right: Boxed<Expr>,
     },
     /// `=` between structures of so many bytes: `right` is the address of the one that is copied, and the value stays.
     Copy {
         size: u64,
-        right: E,
+        right: Boxed<Expr>,
     },
     /// `a op= b` on a number of this kind at the address `value`: it is converted to the kind `at`, the operator works there,
     /// and what it gives is converted back, stored, and is the value.
@@ -111,13 +125,13 @@ pub enum Step<E> {
         op: Binary,
         kind: Kind,
         at: Kind,
-        right: E,
+        right: Boxed<Expr>,
     },
     /// `p += n` and `p -= n`, where the pointer stands at the address `value`.
     Advance {
         direction: Direction,
         scale: u64,
-        right: E,
+        right: Boxed<Expr>,
     },
     /// `++` and `--` on what stands at the address `value`.
     Count {

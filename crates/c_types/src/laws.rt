@@ -1,3 +1,5 @@
+//! Laws of what refuses a program.
+
 ghost use Rattle.c_types.specs.declared.program.Program.{Program};
 ghost use Rattle.c_types.specs.Segment.{RefusalIsOne};
 

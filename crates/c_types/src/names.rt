@@ -1,3 +1,5 @@
+//! The names in scope.
+
 use crate::{CType, FunctionType, Scope, StructType};
 use am_base::{LibCall, MpiCall};
 use rank_range::Kind;

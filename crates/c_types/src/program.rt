@@ -1,3 +1,5 @@
+//! The typed program.
+
 use crate::Stmt;
 use am_base::Bytes;
 use rank_range::{Kind, Width};

@@ -1,3 +1,5 @@
+//! Places behind one another, each aligned.
+
 ghost use Rattle.std.specs.Prelude.{◌≡◌, ◌+◌, ◌^◌, ◌<◌};
 ghost use Rattle.std.specs.Int.{next_multiple_of};
 ghost use Rattle.rank_range.specs.Numbers.{bytes_in};

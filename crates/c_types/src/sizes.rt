@@ -1,3 +1,5 @@
+//! Sizes and alignments.
+
 ghost use Rattle.std.specs.Prelude.{◌≡◌};
 ghost use Rattle.rank_range.specs.Numbers.{bytes_in};
 ghost use Rattle.c_types.specs.Sizes.{layout_of, is_complete_base, is_complete_in, base_size, size_of, base_align, alignment_of, IsComplete, IsSmall};

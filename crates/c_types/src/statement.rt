@@ -1,3 +1,5 @@
+//! Statements of the typed program.
+
 use crate::FullExpr;
 use rank_range::Kind;
 use sqlite_items::{Boxed, Items};

@@ -1,3 +1,5 @@
+//! Structures in the making.
+
 ghost use Rattle.std.specs.Prelude.{◌≡◌, ◌+◌, ◌^◌, ◌<◌, OnOk, OnErr};
 ghost use Rattle.c_types.specs.Sizes.{size_of, IsComplete, IsSmall};
 ghost use Rattle.c_types.specs.Layouts.{no_members, with_member, finished};

@@ -1,3 +1,5 @@
+//! A table of names, in which the innermost is found.
+
 ghost use Rattle.std.specs.Prelude.{◌≡◌, ◌≤◌, ◌<◌, ◌-◌, [], ◌∷◌, ◌++◌, length, take, OnOk, OnErr};
 ghost use Rattle.c_types.specs.Names.{innermost};
 ghost use Rattle.c_types.specs.Tables.{meaning_of, Restores};

@@ -15,9 +15,9 @@ mod program;
 mod scope;
 mod statements;
 
-use thin_model::Program;
 pub use error::ParseError;
 use std::alloc::Global;
+use thin_model::Program;
 use thin_tokens::Token;
 
 /// Parses the tokens of a program (C11, 6.5, 6.7 and 6.8, cut to this form).

@@ -14,8 +14,8 @@ use Rattle.std.specs.List.{flat_map}
 use Rattle.rank_range.specs.declared.kinds.Kind.TheVariants as kind
 use Rattle.rank_range.specs.declared.operators.Binary.TheVariants as op
 use Rattle.rank_range.specs.declared.width.Width.TheVariants as width
-use Rattle.c_types.specs.declared.expression.Operand.TheVariants as operand
-use Rattle.c_types.specs.declared.expression.Step.TheVariants as step
+use Rattle.type_tests.specs.Operands as operand
+use Rattle.type_tests.specs.Steps as step
 use Rattle.c_types.specs.declared.expression.OffsetBy.TheVariants as by
 use Rattle.c_types.specs.declared.expression.Expr.{Expr}
 use Rattle.c_types.specs.declared.statement.Stmt.{Stmt}

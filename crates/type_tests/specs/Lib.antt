@@ -1,3 +1,5 @@
+pub mod Operands
+pub mod Steps
 pub mod Making
 pub mod Reading
 pub mod Ring

@@ -2,14 +2,14 @@
 use Rattle.std.specs.Prelude.{ℕ, List, [], ◌∷◌}
 use Rattle.rank_range.specs.declared.kinds.Kind.{Kind}
 use Rattle.c_types.specs.declared.expression.Expr.{Expr}
-use Rattle.c_types.specs.declared.expression.Expr.TheViews.{roll-Expr}
+use Rattle.c_types.specs.declared.expression.Operand.TheViews.{roll-Expr}
 use Rattle.c_types.specs.declared.expression.Operand.{Operand}
-use Rattle.c_types.specs.declared.expression.Operand.TheVariants as operand
+use Rattle.type_tests.specs.Operands as operand
 use Rattle.c_types.specs.declared.expression.Step.{Step}
-use Rattle.c_types.specs.declared.expression.Step.TheVariants as step
+use Rattle.type_tests.specs.Steps as step
 use Rattle.c_types.specs.declared.expression.FullExpr.{FullExpr}
 
-abbrev pub expr : Operand Expr → List (Step Expr) → Expr
+abbrev pub expr : Operand → List Step → Expr
 expr first steps = roll-Expr (record { first = first; steps = steps })
 
 abbrev pub number : ℕ → Expr

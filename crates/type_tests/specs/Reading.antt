@@ -3,12 +3,10 @@ use Rattle.std.specs.Prelude.{ℕ, List, [], ◌∷◌, ◌++◌, Option, Some, 
 use Rattle.std.specs.List.{flat_map}
 use Rattle.am_base.specs.declared.calls.MpiCall.{MpiCall}
 use Rattle.am_base.specs.declared.calls.LibCall.{LibCall}
+use Rattle.c_types.specs.declared.expression.Operand.{Operand, fold-Operand}
+use Rattle.c_types.specs.declared.expression.Operand.TheOpen.{Operand-F, Step-F, Expr-F}
+use Rattle.c_types.specs.declared.expression.Step.{Step, fold-Step}
 use Rattle.c_types.specs.declared.expression.Expr.{Expr, fold-Expr}
-use Rattle.c_types.specs.declared.expression.Expr.TheOpen.{Expr-F}
-use Rattle.c_types.specs.declared.expression.Operand.{Operand}
-use Rattle.c_types.specs.declared.expression.Operand.TheVariants as operand
-use Rattle.c_types.specs.declared.expression.Step.{Step}
-use Rattle.c_types.specs.declared.expression.Step.TheVariants as step
 use Rattle.c_types.specs.declared.statement.Stmt.{Stmt, fold-Stmt}
 use Rattle.c_types.specs.declared.statement.Stmt.TheOpen.{Stmt-F}
 use Rattle.c_types.specs.declared.statement.Declared.{Declared}
@@ -23,40 +21,46 @@ pub data Called : Type 0 where
 abbrev pub all : List (List Called) → List Called
 all lists = flat_map (λ l. l) lists
 
-abbrev pub in_operand : Operand (List Called) → List Called
-in_operand (operand.Number word) = []
-in_operand (operand.Local offset) = []
-in_operand (operand.Object number) = []
-in_operand (operand.Call function cs) = all cs ++ Own function ∷ []
-in_operand (operand.Library call cs) = all cs ++ Lib call ∷ []
-in_operand (operand.Mpi call cs) = all cs ++ Mpi call ∷ []
+abbrev pub operand_step : Operand-F (List Called) (List Called) (List Called) → List Called
+operand_step (Operand-F.Number word) = []
+operand_step (Operand-F.Local offset) = []
+operand_step (Operand-F.Object number) = []
+operand_step (Operand-F.Call function cs) = all cs ++ Own function ∷ []
+operand_step (Operand-F.Library call cs) = all cs ++ Lib call ∷ []
+operand_step (Operand-F.Mpi call cs) = all cs ++ Mpi call ∷ []
 
-abbrev pub in_step : Step (List Called) → List Called
-in_step (step.Load kind) = []
-in_step (step.Convert from to) = []
-in_step (step.Unary op kind) = []
-in_step step.Not = []
-in_step (step.Member offset) = []
-in_step (step.Binary op kind b) = b
-in_step (step.Greater kind b) = b
-in_step (step.AtLeast kind b) = b
-in_step (step.Offset by scale b) = b
-in_step (step.Difference size b) = b
-in_step (step.And b) = b
-in_step (step.Or b) = b
-in_step (step.Conditional b c) = b ++ c
-in_step (step.Comma b) = b
-in_step (step.Assign kind b) = b
-in_step (step.Copy size b) = b
-in_step (step.Update op kind at b) = b
-in_step (step.Advance direction scale b) = b
-in_step (step.Count counted direction given) = []
+abbrev pub step_step : Step-F (List Called) (List Called) (List Called) → List Called
+step_step (Step-F.Load kind) = []
+step_step (Step-F.Convert from to) = []
+step_step (Step-F.Unary op kind) = []
+step_step Step-F.Not = []
+step_step (Step-F.Member offset) = []
+step_step (Step-F.Binary op kind b) = b
+step_step (Step-F.Greater kind b) = b
+step_step (Step-F.AtLeast kind b) = b
+step_step (Step-F.Offset by scale b) = b
+step_step (Step-F.Difference size b) = b
+step_step (Step-F.And b) = b
+step_step (Step-F.Or b) = b
+step_step (Step-F.Conditional b c) = b ++ c
+step_step (Step-F.Comma b) = b
+step_step (Step-F.Assign kind b) = b
+step_step (Step-F.Copy size b) = b
+step_step (Step-F.Update op kind at b) = b
+step_step (Step-F.Advance direction scale b) = b
+step_step (Step-F.Count counted direction given) = []
 
-abbrev pub calls_step : Expr-F (List Called) → List Called
-calls_step e = in_operand e.first ++ flat_map in_step e.steps
+abbrev pub expr_step : Expr-F (List Called) (List Called) (List Called) → List Called
+expr_step e = e.first ++ all e.steps
+
+unfoldable pub calls_first : Operand → List Called
+calls_first = fold-Operand (List Called) (List Called) (List Called) operand_step step_step expr_step
+
+unfoldable pub calls_behind : Step → List Called
+calls_behind = fold-Step (List Called) (List Called) (List Called) operand_step step_step expr_step
 
 unfoldable pub calls_of : Expr → List Called
-calls_of = fold-Expr (List Called) calls_step
+calls_of = fold-Expr (List Called) (List Called) (List Called) operand_step step_step expr_step
 
 abbrev pub needs : List Stmt → List ℕ
 needs ss = map (λ p. p.need) (flat_map pending_of ss)

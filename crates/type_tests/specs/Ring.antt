@@ -16,8 +16,8 @@ use Rattle.rank_range.specs.declared.operators.Binary.TheVariants as op
 use Rattle.am_base.specs.declared.calls.MpiCall.TheVariants as mpi
 use Rattle.am_base.specs.declared.calls.LibCall.TheVariants as lib
 use Rattle.rank_range.specs.declared.width.Width.TheVariants as width
-use Rattle.c_types.specs.declared.expression.Operand.TheVariants as operand
-use Rattle.c_types.specs.declared.expression.Step.TheVariants as step
+use Rattle.type_tests.specs.Operands as operand
+use Rattle.type_tests.specs.Steps as step
 use Rattle.c_types.specs.declared.expression.Expr.{Expr}
 use Rattle.c_types.specs.declared.statement.Stmt.{Stmt}
 use Rattle.c_types.specs.declared.statement.Stmt.TheOpen.{Stmt-F}

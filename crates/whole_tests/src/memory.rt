@@ -2,9 +2,8 @@
 //! rank's first byte: `top T`, `accessible AT N`, `place AT WIDTH`, `load AT WIDTH`, `store AT WIDTH V`, `raw AT WIDTH`,
 //! `put AT WIDTH V`, `page P`, `clean`; `address A N` takes an address.
 
-ghost use Rattle.std.specs.Prelude.{◌≤◌, IfSome};
-ghost use Rattle.std.specs.Prelude.{◌+◌};
-ghost use Rattle.rank_range.specs.Layout.{range_bytes, stack_start};
+ghost use Rattle.std.specs.Prelude.{◌≡◌, ◌+◌, ◌≤◌, true};
+ghost use Rattle.rank_range.specs.Layout.{range_bytes};
 ghost use Rattle.rank_range.specs.Numbers.{bytes_in};
 
 use crate::cases::begins;
@@ -18,9 +17,15 @@ use std::alloc::{AllocError, Global};
 
 pub fn play(alloc: Global, out: &mut String, group: &[&str]) -> Result<(), AllocError> {
     let mut memory = FlatMem::fresh(alloc, rank_of(group))?;
+    let played = play_on(&mut memory, out, group);
+    drop(memory);
+    played
+}
+
+fn play_on(memory: &mut FlatMem, out: &mut String, group: &[&str]) -> Result<(), AllocError> {
     for line in group {
         if begins(out, line)? {
-            answer(&mut memory, out, line)?;
+            answer(memory, out, line)?;
             out.push_str("\n")?;
         }
     }
@@ -170,7 +175,9 @@ fn answer_number(memory: &mut FlatMem, out: &mut String, line: &str) -> Result<(
 }
 
 /// Whether so many bytes lie in the range there.
-fn is_within(at: u32, width: Width) -> bool {
+pub fn is_within(at: u32, width: Width) -> bool
+    ensures { result ≡ true → at + bytes_in width ≤ range_bytes }
+{
     u64::from(at) + width.bytes() as u64 <= u64::from(RANGE_BYTES)
 }
 
