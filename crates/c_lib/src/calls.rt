@@ -4,7 +4,7 @@ ghost use Rattle.std.specs.Prelude.{◌≡◌, ◌≤◌, ◌++◌, [], codes, l
 ghost use Rattle.am_base.specs.declared.calls.LibCall.TheVariants as lib;
 ghost use Rattle.am_base.specs.Calls.{lib_parameters};
 ghost use Rattle.rank_range.specs.Layout.{MarksChanges};
-ghost use Rattle.rank_range.specs.Areas.{areas_of};
+ghost use Rattle.rank_range.specs.Areas.{Areas, areas_of};
 ghost use Rattle.rank_range.specs.Library.{library_does, Does};
 ghost use Rattle.c_lib.specs.Answers.{is_made, is_reading, Tells, LeavesTheRest};
 
@@ -57,12 +57,12 @@ fn reading_call<M: Mem>(
     match which {
         LibCall::Printf => printf(alloc, args, m),
         LibCall::Puts => puts(alloc, args, m),
-        LibCall::Putchar => putchar(alloc, args, m),
+        LibCall::Putchar => putchar(alloc, args),
         LibCall::Memcmp => memcmp(alloc, args, m),
         LibCall::Strlen => strlen(alloc, args, m),
         LibCall::Strcmp => strcmp(alloc, args, m),
         LibCall::Atoi => atoi(alloc, args, m),
-        LibCall::Abs => Ok(abs(alloc, args, m)),
+        LibCall::Abs => Ok(abs(alloc, args)),
         _ => unreachable!(),
     }
 }
@@ -116,9 +116,9 @@ fn with_newline(alloc: Global, line: &[u8]) -> Result<Bytes, AllocError>
 }
 
 #[tactic(auto, unfolding(rank_range::specs::Library::library_does))]
-fn putchar<M: Mem>(alloc: Global, args: &[u64], _m: &M) -> Result<LibOut, LibStop>
+fn putchar(alloc: Global, args: &[u64]) -> Result<LibOut, LibStop>
     requires { 1 ≤ length args.now }
-    ensures { Tells (library_does lib.Putchar args.now (areas_of (M.rank_of _m.now) (M.top_of _m.now) (M.bytes_of _m.now))) (areas_of (M.rank_of _m.now) (M.top_of _m.now) (M.bytes_of _m.now)) result }
+    ensures { (areas : Areas) → Tells (library_does lib.Putchar args.now areas) areas result }
 {
     let value = args[0] % 256;
     match Bytes::from_slice(alloc, &[value as u8]) {
@@ -175,9 +175,9 @@ fn atoi<M: Mem>(alloc: Global, args: &[u64], m: &M) -> Result<LibOut, LibStop>
 }
 
 #[tactic(auto, unfolding(rank_range::specs::Library::library_does, rank_range::specs::Kinds::extended))]
-fn abs<M: Mem>(alloc: Global, args: &[u64], _m: &M) -> LibOut
+fn abs(alloc: Global, args: &[u64]) -> LibOut
     requires { 1 ≤ length args.now }
-    ensures { library_does lib.Abs args.now (areas_of (M.rank_of _m.now) (M.top_of _m.now) (M.bytes_of _m.now)) ≡ Does result.value result.text (areas_of (M.rank_of _m.now) (M.top_of _m.now) (M.bytes_of _m.now)) }
+    ensures { (areas : Areas) → library_does lib.Abs args.now areas ≡ Does result.value result.text areas }
 {
     let value = signed_value(false, args[0]);
     silent(alloc, extended(Kind::Int, value.unsigned_abs()))
