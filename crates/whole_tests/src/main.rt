@@ -8,6 +8,7 @@ mod commands;
 mod fields;
 mod heaps;
 mod lexing;
+mod libraries;
 mod lines;
 mod memory;
 mod names;

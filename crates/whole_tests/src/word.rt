@@ -19,11 +19,12 @@ pub enum Word {
     Plans,
     Memory,
     Heap,
+    Library,
     Match,
 }
 
 /// The layers in the order in which `all` plays them.
-pub const ALL: [Word; 11] = [
+pub const ALL: [Word; 12] = [
     Word::Fields,
     Word::Names,
     Word::Files,
@@ -34,6 +35,7 @@ pub const ALL: [Word; 11] = [
     Word::Plans,
     Word::Memory,
     Word::Heap,
+    Word::Library,
     Word::Match,
 ];
 
@@ -59,6 +61,7 @@ impl Word {
             Word::Plans => "plans",
             Word::Memory => "memory",
             Word::Heap => "heap",
+            Word::Library => "library",
             Word::Match => "match",
         }
     }
@@ -76,6 +79,7 @@ impl Word {
             Word::Plans => "plans.txt",
             Word::Memory => "memory.txt",
             Word::Heap => "heap.txt",
+            Word::Library => "library.txt",
             Word::Match => "match.txt",
         }
     }
@@ -107,7 +111,7 @@ impl Word {
                 spelled_heap_is_one();
                 other_bytes_tell_nothing();
             }
-            Word::Names | Word::Files | Word::Plans | Word::Match => {}
+            Word::Names | Word::Files | Word::Plans | Word::Library | Word::Match => {}
         }
     }
 }
