@@ -1,9 +1,8 @@
 #!/usr/bin/env bash
 # Nanoseconds of processor time a tick, on one rank in a loop of 4,000,000 turns: the fastest of five runs of the built program.
 set -u
-top=$(cd "$(dirname "${BASH_SOURCE[0]}")/.." && pwd)
-program=$top/crates/ampi/out/ampi
-[ -x "$program" ] || { echo "bench: no program at $program: build it first" >&2; exit 1; }
+. "$(dirname "${BASH_SOURCE[0]}")/timing.sh"
+program=$(program_of ampi) || exit 1
 folder=$(mktemp -d)
 trap 'rm -rf "$folder"' EXIT
 source=$folder/loop.c

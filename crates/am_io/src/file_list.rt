@@ -1,3 +1,4 @@
+//! Files by name, in memory.
 ghost use Rattle.std.specs.Prelude.{◌≡◌, [], ◌∷◌, ◌++◌, OnOk, OnErr};
 ghost use Rattle.std.specs.Option.{option_copied};
 ghost use Rattle.am_io.specs.Contents.{file_of};

@@ -1,3 +1,4 @@
+//! Where a program reads files.
 ghost use Rattle.std.specs.Prelude.{◌≡◌, ℕ, ◌+◌, ◌≤◌, length, IfOk, OnOk, IsErrOf};
 ghost use Rattle.am_io.specs.Faults.{Rose};
 ghost use Rattle.am_io.specs.Contents.{Held, Loads};

@@ -1,3 +1,4 @@
+//! Files in memory, and loads that fail.
 ghost use Rattle.std.specs.Prelude.{◌≡◌, ◌+◌, ◌≤◌, [], ◌∷◌, ◌++◌, length, take, Some, IfOk, OnOk, OnErr, IsErrOf, IsOkUnless, IsTrue, ◌↔◌};
 ghost use Rattle.am_io.specs.Contents.{bytes_of};
 ghost use Rattle.am_io.specs.Memory.{is_refused, after_load};

@@ -1,3 +1,4 @@
+//! Bytes in memory that are written to, and writes that fail.
 ghost use Rattle.std.specs.Prelude.{◌≡◌, ◌+◌, ◌-◌, ◌^◌, ◌≤◌, [], ◌∷◌, ◌++◌, ◌↔◌, length, None, Some, IsTrue, IsOk, IsErr, OnOk, OnErr};
 ghost use Rattle.am_io.specs.Memory.{is_failing, after_put};
 

@@ -1,3 +1,4 @@
+//! A sink that need not be there.
 ghost use Rattle.std.specs.Prelude.{◌-◌, ◌^◌, unwrap_or, option_and_then};
 ghost use Rattle.std.specs.Option.{option_map};
 

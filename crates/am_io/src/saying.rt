@@ -1,3 +1,4 @@
+//! Putting a piece, with the room for it.
 ghost use Rattle.std.specs.Prelude.{◌≡◌, ◌≤◌, [], IsOk, OnOk, IsErrOf};
 ghost use Rattle.std.specs.Io.KnownBytes.{Appends, Keeps};
 ghost use Rattle.am_io.specs.Faults.{Rose};

@@ -3,17 +3,17 @@ use Rattle.std.proofs.Common.{ℕ, ◌≡◌, ◌+◌, ◌<◌, ◌≤◌, List,
 use Rattle.std.specs.List.{AllByRecursion}
 use Rattle.am_io.specs.Faults.{Rose}
 use Rattle.am_io.specs.Contents.{Held, Loads, bytes_of}
-use Rattle.c_model.specs.declared.tree.Program.{Program}
-use Rattle.c_model.specs.Need.{Pending, Fits, IsSimple, IsTooComplex, pending_limit, all_pending}
+use Rattle.thin_model.specs.declared.tree.Program.{Program}
+use Rattle.thin_model.specs.Need.{Pending, Fits, IsSimple, IsTooComplex, pending_limit, all_pending}
 use Rattle.run_words.specs.Words.{Asked, AskForRun}
-use Rattle.run_words.specs.Asks.{IsAccepted as IsAskedBy}
+use Rattle.run_words.specs.Asks.{IsAskedBy}
 use Rattle.run_words.specs.declared.command.Command.{Command}
 use Rattle.run_words.proofs.ReadingLemmas.{one_run}
 use Rattle.run_words.proofs.RankLemmas.{few-ranks, bounded-ticks}
 use Rattle.thin_compile.specs.Source.{IsSource, IsNotBuilt, IsTooComplexSource, IsCompiled}
 use Rattle.thin_compile.proofs.SourceLemmas.{one-source}
 use Rattle.thin_run.specs.Group.{setting}
-use Rattle.vm_code.specs.declared.compiled.Compiled.{Compiled}
+use Rattle.thin_code.specs.declared.compiled.Compiled.{Compiled}
 use Rattle.w_model.specs.declared.report.End.{End}
 use Rattle.w_model.specs.declared.report.End.TheVariants as end
 use Rattle.ampi.specs.declared.status.Status.{Status}

@@ -3,9 +3,9 @@ use Rattle.std.specs.Prelude.{ℕ, ◌≡◌, ◌+◌, ◌≤◌, ◌==◌, if�
 use Rattle.std.specs.Fmt.{decimal}
 use Rattle.am_io.specs.Contents.{Held, Loads}
 use Rattle.am_io.specs.Faults.{Rose}
-use Rattle.c_model.specs.declared.tree.Program.{Program}
+use Rattle.thin_model.specs.declared.tree.Program.{Program}
 use Rattle.run_words.specs.Words.{Asked, AskForRun}
-use Rattle.c_model.specs.Need.{IsSimple}
+use Rattle.thin_model.specs.Need.{IsSimple}
 use Rattle.thin_compile.specs.Source.{IsSource, IsNotBuilt, IsTooComplexSource}
 use Rattle.mpi_types.specs.declared.entries.Entry.{Entry}
 use Rattle.w_model.specs.declared.report.End.{End}

@@ -1,7 +1,7 @@
 -- An answer comes, or yields to a write that fails or to want of memory.
 use Rattle.std.specs.Prelude.{ℕ, ◌≡◌, List, Some}
 use Rattle.am_io.specs.Contents.{Held}
-use Rattle.c_model.specs.declared.tree.Program.{Program}
+use Rattle.thin_model.specs.declared.tree.Program.{Program}
 use Rattle.run_words.specs.Words.{Asked, AskForRun}
 use Rattle.thin_compile.specs.Source.{IsNotBuilt, IsTooComplexSource}
 use Rattle.ampi.specs.Answers.{IsLoaded, IsTooLong, IsAccepted}

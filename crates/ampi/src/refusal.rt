@@ -1,3 +1,4 @@
+//! The text of a refusal, and its answer.
 ghost use Rattle.std.specs.Prelude.{◌≡◌, ◌++◌, [], ◌∷◌, IfOk, string_bytes};
 ghost use Rattle.am_io.specs.Faults.{Rose};
 ghost use Rattle.ampi.specs.Answers.{Answers, Explains, cause_text, source_text};

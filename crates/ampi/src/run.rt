@@ -1,7 +1,8 @@
+//! The texts of a run, put one after another.
 ghost use Rattle.std.specs.Prelude.{◌≡◌, ◌≤◌, ◌⊎◌, IfOk, OnOk, OnErr, IsErrOf};
 ghost use Rattle.am_io.specs.Faults.{Rose};
 ghost use Rattle.thin_run.specs.Group.{setting};
-ghost use Rattle.vm_code.specs.Means.{Means};
+ghost use Rattle.thin_code.specs.Means.{Means};
 ghost use Rattle.mpi_types.specs.Journal.{header_line};
 ghost use Rattle.ampi.specs.Puts.{puts};
 ghost use Rattle.ampi.specs.Runs.{PutsRun, PutsRunPart};
@@ -10,8 +11,8 @@ use am_base::Bytes;
 use am_io::{SayError, Sink, say};
 use mpi_types::append_header;
 use std::alloc::{AllocError, Global};
+use thin_code::Compiled;
 use thin_run::run;
-use vm_code::Compiled;
 use w_model::End;
 
 /// Runs the program of a file on so many ranks, with a bound on the ticks of each, and puts the journal, the lines and the

@@ -1,3 +1,4 @@
+//! The program's answer.
 ghost use Rattle.std.specs.Prelude.{◌≡◌};
 ghost use Rattle.ampi.specs.Status.{exit_number};
 

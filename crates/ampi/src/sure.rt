@@ -1,3 +1,4 @@
+//! The program where nothing outside can fail.
 ghost use Rattle.std.specs.Prelude.{Some};
 ghost use Rattle.run_words.specs.Asks.{bytes_of_words};
 ghost use Rattle.ampi.specs.Answers.{Answers, IsAccepted, reads};

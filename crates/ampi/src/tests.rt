@@ -1,3 +1,4 @@
+//! The program over files and sinks in memory.
 use crate::{Status, ampi, ampi_surely};
 use am_io::{MemFiles, MemSink, SureFiles, SureSink};
 use std::alloc::{AllocError, Global};

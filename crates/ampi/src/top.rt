@@ -1,7 +1,8 @@
+//! The top call: words, file, source and run, in this order.
 ghost use Rattle.std.specs.Prelude.{◌≡◌, ◌≤◌, ◌⊎◌, ℕ, length, string_bytes};
 ghost use Rattle.am_io.specs.Faults.{Rose};
-ghost use Rattle.run_words.specs.Asks.{bytes_of_words, IsAccepted as IsAskedBy};
-ghost use Rattle.vm_code.specs.Means.{Means};
+ghost use Rattle.run_words.specs.Asks.{bytes_of_words, IsAskedBy};
+ghost use Rattle.thin_code.specs.Means.{Means};
 ghost use Rattle.thin_compile.specs.Source.{IsCompiled};
 ghost use Rattle.ampi.specs.Answers.{Answers, IsUsage, IsLoaded, reads, source_limit, status_of};
 ghost use Rattle.ampi.specs.Puts.{puts};
@@ -13,8 +14,8 @@ use crate::run::put_run;
 use am_io::{Files, LoadError, SayError, Sink};
 use run_words::{Command, WordsError, read_words};
 use std::alloc::Global;
+use thin_code::Compiled;
 use thin_compile::{CompileError, compile};
-use vm_code::Compiled;
 use w_model::End;
 
 /// The longest source, in bytes.

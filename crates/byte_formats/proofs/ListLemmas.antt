@@ -1,10 +1,11 @@
 -- Lists that are read and written one value after another.
-use Rattle.std.proofs.Common.{◌≡◌, ◌∙◌, ◌+◌, ◌-◌, ◌<◌, ℕ, zero, suc, Bool, true, false, ◌==◌, List, [], ◌∷◌, ◌++◌, length, take, get_or, Option, Some, None, refl, sym, ap, arith, append_assoc, append-nil}
+use Rattle.std.proofs.Common.{◌≡◌, ◌∙◌, ℕ, zero, suc, Bool, true, false, ◌&&◌, ◌==◌, List, [], ◌∷◌, ◌++◌, ◌+◌, ◌<◌, get_or, length, Option, Some, None, refl, sym, ap, arith, append_assoc, append-nil}
 use Rattle.std.proofs.lemmas.Bool.{eqb-true}
-use Rattle.std.specs.List.{flat_map, list_all}
-use Rattle.byte_formats.specs.Formats.{Format, then_read, read_many}
+use Rattle.byte_formats.specs.Formats.{ascends, Format, then_read, read_many}
 use Rattle.byte_formats.specs.Lawful.{AreBytes, IsInFront, IsFormat, Spells}
-use Rattle.byte_formats.specs.FormatLaws.{none_found}
+use Rattle.std.specs.List.{IsAllAdjacentAnswer}
+use Rattle.std.proofs.Math.Bool.{and-false}
+use Rattle.byte_formats.specs.FormatLaws.{and_is_true, none_found}
 
 -- behind some values so many more are to be read
 abbrev pub more_behind : {X : Type 0} → Format X → List X → ℕ → List ℕ → Option (List X × List ℕ)
@@ -60,3 +61,32 @@ whole_spells f bytes rest x hf h read ends =
     let empty : rest ≡ [] = no_bytes rest (eqb-true (length rest) 0 (sym ends)) in
     let front : IsInFront f bytes (x, rest) = hf.nothing_else bytes (x, rest) h read in
     record { fits = front.fits; bytes_are = front.bytes_are ∙ ap (λ bs. f.spell x ++ bs) empty ∙ append-nil (f.spell x) }
+
+-- each value comes before the next
+all_ascend : {X : Type 0} (e : X → X → Bool) (xs : List X)
+    → ((k : ℕ) (d : X) → k + 1 < length xs → true ≡ e (get_or xs k d) (get_or xs (k + 1) d)) → ascends e xs ≡ true
+all_ascend e [] h = refl
+all_ascend e (x ∷ []) h = refl
+all_ascend e (x ∷ y ∷ xs) h =
+    let first : true ≡ e x y = h 0 x (omega arith) in
+    and_is_true (e x y) (ascends e (y ∷ xs)) (sym first)
+    (all_ascend e (y ∷ xs) (λ k d inside.
+    (let next : suc k + 1 ≡ suc (k + 1) = omega arith in
+    h (suc k) d (omega (arith, inside)) ∙ ap (λ n. e (get_or (y ∷ xs) k d) (get_or (x ∷ y ∷ xs) n d)) next)))
+
+-- some value doesn't
+one_breaks : {X : Type 0} (e : X → X → Bool) (xs : List X) (k : ℕ) → k + 1 < length xs
+    → ((d : X) → false ≡ e (get_or xs k d) (get_or xs (k + 1) d)) → ascends e xs ≡ false
+one_breaks e [] k inside h = absurd (omega arith)
+one_breaks e (x ∷ []) k inside h = absurd (omega arith)
+one_breaks e (x ∷ y ∷ xs) zero inside h = let first : false ≡ e x y = h x in ap (λ b. b && ascends e (y ∷ xs)) (sym first)
+one_breaks e (x ∷ y ∷ xs) (suc k) inside h =
+    let next : suc k + 1 ≡ suc (k + 1) = omega arith in
+    let rest : ascends e (y ∷ xs) ≡ false =
+    one_breaks e (y ∷ xs) k (omega (arith, inside)) (λ d. h d ∙ ap (λ n. e (get_or (y ∷ xs) k d) (get_or (x ∷ y ∷ xs) n d)) next) in
+    rw rest (and-false (e x y))
+
+pub sorted_ascends : {X : Type 0} (e : X → X → Bool) (xs : List X) (r : Bool)
+    → IsAllAdjacentAnswer (λ x y b. b ≡ e x y) xs r → r ≡ ascends e xs
+sorted_ascends e xs true h = sym (all_ascend e xs h)
+sorted_ascends e xs false h = sym (one_breaks e xs h.0 h.1 h.2)

@@ -1,10 +1,10 @@
 -- The laws of choices, and of whole spellings.
-use Rattle.std.proofs.Common.{◌≡◌, ◌∙◌, ◌⊎◌, ◌↔◌, ◌≢◌, ℕ, Bool, true, false, ◌==◌, ◌||◌, cond, List, [], ◌∷◌, ◌++◌, Option, Some, None, refl, sym, ap, subst, inl, inr, append-nil}
+use Rattle.std.proofs.Common.{◌≡◌, ◌∙◌, ◌⊎◌, ◌↔◌, ◌≢◌, ℕ, Bool, true, false, ◌==◌, ◌||◌, List, [], ◌∷◌, ◌++◌, Option, Some, None, refl, sym, ap, subst, inl, inr, append-nil}
 use Rattle.std.proofs.lemmas.Bool.{eqb-true, eq-eqb}
 use Rattle.std.proofs.lemmas.Bool.Decides.{eqb_tells}
-use Rattle.byte_formats.specs.Formats.{Format, then_read, number8}
-use Rattle.byte_formats.specs.Choices.{Kinds, kind, of_either, or_kinds, tagged, one_of_two, one_of_three}
-use Rattle.byte_formats.specs.Lawful.{AreBytes, IsInFront, IsReadBack, IsFormat, Spells, AreKinds}
+use Rattle.byte_formats.specs.Formats.{Format, number8}
+use Rattle.byte_formats.specs.Choices.{Kinds, kind, or_kinds, tagged, one_of_two, one_of_three}
+use Rattle.byte_formats.specs.Lawful.{AreBytes, IsInFront, IsFormat, Spells, AreKinds}
 use Rattle.byte_formats.specs.FormatLaws.{reads_before, chosen, none_found, behind_are_bytes, read8, was_read8}
 
 pub kind_is : {X : Type 0} (tag : ℕ) (f : Format X) → IsFormat f → AreKinds (kind tag f)
@@ -13,11 +13,12 @@ kind_is {X} tag f hf =
       tags = λ x e. eq-eqb tag tag refl;
       back = λ x rest e. rw (eq-eqb tag tag refl) (hf.back x rest e);
       nothing_else = λ t bytes found h e.
-        elim (chosen (t == tag) (f.read bytes) None (Some found) e) [
-          inl own ↦
-            let is : IsInFront f bytes found = hf.nothing_else bytes found h own.1 in
-            (is.fits, sym (eqb-true t tag own.0), is.bytes_are)
-        | inr other ↦ absurd (none_found found other.1) ];
+          elim (chosen (t == tag) (f.read bytes) None (Some found) e) [
+            | inl own ↦
+                let is : IsInFront f bytes found = hf.nothing_else bytes found h own.1 in
+                (is.fits, sym (eqb-true t tag own.0), is.bytes_are)
+            | inr other ↦ absurd (none_found found other.1)
+          ];
     }
 
 or_is_true : (a b : Bool) → b ≡ true → (a || b) ≡ true
@@ -28,8 +29,9 @@ or_is_true false b e = e
 not_a_tag : (has : ℕ → Bool) (tag t : ℕ) → has tag ≡ false → has t ≡ true → (t == tag) ≡ false
 not_a_tag has tag t no_tag is_tag =
     elim (eqb_tells t tag) [
-      inl same ↦ let both : has tag ≡ true = ap has (sym same.1) ∙ is_tag in cc
-    | inr other ↦ other.0 ]
+      | inl same ↦ let both : has tag ≡ true = ap has (sym same.1) ∙ is_tag in cc
+      | inr other ↦ other.0
+    ]
 
 -- a value of one of the kinds, and its tag in front of it
 has_tag : {X Y : Type 0} (tag : ℕ) (f : Format X) (others : Kinds Y) → AreKinds others
@@ -52,19 +54,20 @@ or_kinds_are {X} {Y} tag f others free hf ho =
       tags = has_tag tag f others ho;
       back = kinds_back tag f others free hf ho;
       nothing_else = λ t bytes found h e.
-        let P : (X ⊎ Y) × List ℕ → Type 0 =
-        λ p. ((or_kinds tag f others).fits p.0 ≡ true) × ((or_kinds tag f others).tag p.0 ≡ t)
+          let P : (X ⊎ Y) × List ℕ → Type 0 =
+          λ p. ((or_kinds tag f others).fits p.0 ≡ true) × ((or_kinds tag f others).tag p.0 ≡ t)
           × (bytes ≡ (or_kinds tag f others).spell p.0 ++ p.1) in
-        elim (chosen (t == tag) _ _ (Some found) e) [
-          inl own ↦
-            let first = reads_before (f.read bytes) _ found own.1 in
-            let f_is : IsInFront f bytes first.0 = hf.nothing_else bytes first.0 h first.1 in
-            let is : (inl first.0.0, first.0.1) ≡ found = cc in
-            subst P is (f_is.fits, sym (eqb-true t tag own.0), f_is.bytes_are)
-        | inr other ↦
-            let first = reads_before (others.read t bytes) _ found other.1 in
-            let is : (inr first.0.0, first.0.1) ≡ found = cc in
-            subst P is (ho.nothing_else t bytes first.0 h first.1) ];
+          elim (chosen (t == tag) _ _ (Some found) e) [
+            | inl own ↦
+                let first = reads_before (f.read bytes) _ found own.1 in
+                let f_is : IsInFront f bytes first.0 = hf.nothing_else bytes first.0 h first.1 in
+                let is : (inl first.0.0, first.0.1) ≡ found = cc in
+                subst P is (f_is.fits, sym (eqb-true t tag own.0), f_is.bytes_are)
+            | inr other ↦
+                let first = reads_before (others.read t bytes) _ found other.1 in
+                let is : (inr first.0.0, first.0.1) ≡ found = cc in
+                subst P is (ho.nothing_else t bytes first.0 h first.1)
+          ];
     }
 
 pub tagged_is : {X : Type 0} (kinds : Kinds X) → AreKinds kinds → IsFormat (tagged kinds)
@@ -72,14 +75,14 @@ tagged_is kinds hk =
     record {
       back = λ x rest e. rw (read8 (kinds.tag x) (kinds.spell x ++ rest)) (hk.back x rest e);
       nothing_else = λ bytes found h e.
-        let first = reads_before (number8.read bytes) _ found e in
-        let was : bytes ≡ first.0.0 ∷ first.0.1 = was_read8 bytes first.0 first.1 in
-        let rest_fits : AreBytes first.0.1 = behind_are_bytes (first.0.0 ∷ []) first.0.1 bytes was h in
-        let is = hk.nothing_else first.0.0 first.0.1 found rest_fits first.2 in
-        record {
-          fits = is.0;
-          bytes_are = was ∙ ap (λ t. t ∷ first.0.1) (sym is.1) ∙ ap (λ bs. kinds.tag found.0 ∷ bs) is.2;
-        };
+          let first = reads_before (number8.read bytes) _ found e in
+          let was : bytes ≡ first.0.0 ∷ first.0.1 = was_read8 bytes first.0 first.1 in
+          let rest_fits : AreBytes first.0.1 = behind_are_bytes (first.0.0 ∷ []) first.0.1 bytes was h in
+          let is = hk.nothing_else first.0.0 first.0.1 found rest_fits first.2 in
+          record {
+            fits = is.0;
+            bytes_are = was ∙ ap (λ t. t ∷ first.0.1) (sym is.1) ∙ ap (λ bs. kinds.tag found.0 ∷ bs) is.2;
+          };
     }
 
 differ : (a b : ℕ) → a ≢ b → (a == b) ≡ false
@@ -109,6 +112,6 @@ pub whole_is_read : {X : Type 0} (f : Format X) → IsFormat f → (bytes : List
     → (f.read bytes ≡ Some (x, [])) ↔ Spells f bytes x
 whole_is_read f hf bytes x h = (
   λ e. (let is : IsInFront f bytes (x, []) = hf.nothing_else bytes (x, []) h e in
-    record { fits = is.fits; bytes_are = is.bytes_are ∙ append-nil (f.spell x) }),
+      record { fits = is.fits; bytes_are = is.bytes_are ∙ append-nil (f.spell x) }),
   λ s. ap f.read (s.bytes_are ∙ sym (append-nil (f.spell x))) ∙ hf.back x [] s.fits,
 )

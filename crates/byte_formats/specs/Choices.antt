@@ -1,7 +1,6 @@
 -- Values of one of several kinds, each behind a byte that tells the kind: its tag.
-use Rattle.std.specs.Prelude.{◌≡◌, ◌⊎◌, ◌==◌, if◌then◌else◌, ◌||◌, ℕ, Bool, List, ◌∷◌, Option, Some, None}
+use Rattle.std.specs.Prelude.{◌⊎◌, ◌==◌, if◌then◌else◌, ◌||◌, ℕ, Bool, List, ◌∷◌, Option, Some, None}
 use Rattle.byte_formats.specs.Formats.{Format, number8, then_read}
-
 pub use Rattle.std.proofs.Common.{inl, inr}
 
 -- The kinds of a choice: which numbers are tags, and for a value its tag and the format of what follows the tag.
@@ -37,8 +36,8 @@ or_kinds tag f others =
       tag = of_either (λ x. tag) others.tag;
       spell = of_either f.spell others.spell;
       read = λ t bytes.
-        if t == tag then then_read (f.read bytes) (λ x rest. Some (inl x, rest))
-        else then_read (others.read t bytes) (λ y rest. Some (inr y, rest));
+          if t == tag then then_read (f.read bytes) (λ x rest. Some (inl x, rest))
+          else then_read (others.read t bytes) (λ y rest. Some (inr y, rest));
     }
 
 -- a tag, and what it tells of

@@ -1,6 +1,6 @@
 -- Formats of bytes as values, made of one another. This profile's own.
-use Rattle.std.specs.Prelude.{◌≡◌, ◌+◌, ◌^◌, ℕ, zero, suc, ℤ, pos, negsuc, Bool, true, false, ◌&&◌, ◌==◌, nat_lt, if◌then◌else◌, List, [], ◌∷◌, ◌++◌, length, take, drop, slice_index, Option, Some, None}
-use Rattle.std.specs.Option.{option_and_then, option_map}
+use Rattle.std.specs.Prelude.{◌^◌, ℕ, zero, suc, ℤ, pos, negsuc, Bool, true, ◌&&◌, ◌==◌, nat_lt, if◌then◌else◌, List, [], ◌∷◌, ◌++◌, length, take, drop, slice_index, Option, Some, None}
+use Rattle.std.specs.Option.{option_map}
 use Rattle.std.specs.List.{flat_map, list_all}
 use Rattle.std.specs.Int.{w16, w32, w64, to_le_bytes, from_le_bytes, cast_signed, cast_unsigned}
 
@@ -56,13 +56,11 @@ abbrev pub nothing : Format (Unit {0})
 nothing = record { fits = λ x. true; spell = λ x. []; read = λ bytes. Some (tt, bytes) }
 
 -- so many bytes as they are
-unfoldable pub block : ℕ → Format (List ℕ)
-block size =
-    record {
-      fits = λ bytes. length bytes == size;
-      spell = λ bytes. bytes;
-      read = λ bytes. if nat_lt (length bytes) size then None else Some (take size bytes, drop size bytes);
-    }
+unfoldable pub read_block : ℕ → List ℕ → Option (List ℕ × List ℕ)
+read_block size bytes = if nat_lt (length bytes) size then None else Some (take size bytes, drop size bytes)
+
+abbrev pub block : ℕ → Format (List ℕ)
+block size = record { fits = λ bytes. length bytes == size; spell = λ bytes. bytes; read = read_block size }
 
 -- one value behind another
 abbrev pub both : {X Y : Type 0} → Format X → Format Y → Format (X × Y)
@@ -125,7 +123,7 @@ optional f =
       fits = fits_option f;
       spell = spelled_option f;
       read = λ bytes. then_read (number8.read bytes) (λ tag rest.
-        if tag == 0 then Some (None, rest) else if tag == 1 then then_read (f.read rest) (λ x behind. Some (Some x, behind)) else None);
+          if tag == 0 then Some (None, rest) else if tag == 1 then then_read (f.read rest) (λ x behind. Some (Some x, behind)) else None);
     }
 
 -- so many values, read one after another

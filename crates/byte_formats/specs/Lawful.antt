@@ -1,5 +1,5 @@
 -- What makes a format one: a value is read back from its one spelling, and nothing else is read.
-use Rattle.std.specs.Prelude.{◌≡◌, ◌<◌, ℕ, true, List, ◌++◌, Some, None, slice_index}
+use Rattle.std.specs.Prelude.{◌≡◌, ◌<◌, ℕ, true, List, ◌++◌, Some, slice_index}
 use Rattle.byte_formats.specs.Formats.{Format}
 use Rattle.byte_formats.specs.Choices.{Kinds}
 
@@ -34,4 +34,4 @@ pub record AreKinds {X : Type 0} (kinds : Kinds X) : Type 0 where
   pub tags : (x : X) → kinds.fits x ≡ true → kinds.has (kinds.tag x) ≡ true
   pub back : (x : X) (rest : List ℕ) → kinds.fits x ≡ true → kinds.read (kinds.tag x) (kinds.spell x ++ rest) ≡ Some (x, rest)
   pub nothing_else : (t : ℕ) (bytes : List ℕ) (found : X × List ℕ) → AreBytes bytes → kinds.read t bytes ≡ Some found
-    → (kinds.fits found.0 ≡ true) × (kinds.tag found.0 ≡ t) × (bytes ≡ kinds.spell found.0 ++ found.1)
+      → (kinds.fits found.0 ≡ true) × (kinds.tag found.0 ≡ t) × (bytes ≡ kinds.spell found.0 ++ found.1)

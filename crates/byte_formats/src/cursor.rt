@@ -1,3 +1,5 @@
+//! The bytes that are left to read.
+
 ghost use Rattle.std.specs.Prelude.{◌≡◌};
 ghost use Rattle.byte_formats.specs.declared.cursor.Unspelled.TheVariants.{Memory};
 

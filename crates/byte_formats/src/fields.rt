@@ -1,3 +1,5 @@
+//! Numbers of one, two, four and eight bytes.
+
 ghost use Rattle.std.specs.Prelude.{◌≡◌, [], ◌∷◌, ◌++◌, true, Some, None, IfOk, OnOk, IsErrOf};
 ghost use Rattle.byte_formats.specs.declared.cursor.Unspelled.TheVariants.{Bad, Memory};
 ghost use Rattle.byte_formats.specs.Formats.{number8, number16, number32, number64, signed32, block, text};
@@ -82,7 +84,7 @@ pub fn take_i32(cursor: &mut Cursor<'_>) -> Result<i32, Unspelled>
 /// # Errors
 ///
 /// `Bad` just where fewer are left.
-#[tactic(auto, unfolding(crate::specs::Formats::block))]
+#[tactic(auto, unfolding(crate::specs::Formats::read_block))]
 pub fn take_block<'a>(cursor: &mut Cursor<'a>, size: usize) -> Result<&'a [u8], Unspelled>
     ensures ok { IfOk result (λ bytes. (block size).read cursor.old.rest.now ≡ Some (bytes.now, cursor.new.rest.now)) }
     ensures bad { IsErrOf result Bad → (block size).read cursor.old.rest.now ≡ None }
@@ -156,12 +158,35 @@ pub fn put_i32(out: &mut Bytes, x: i32) -> Result<(), AllocError>
     put_u32(out, x.cast_unsigned())
 }
 
+/// Appends the length of a list in a field of one byte. It asks that the length fits, as the next two calls.
+pub fn put_count8(out: &mut Bytes, count: usize) -> Result<(), AllocError>
+    requires { number8.fits count ≡ true }
+    ensures { OnOk result (out.new ≡ out.old ++ number8.spell count) }
+{
+    put_u8(out, count as u8)
+}
+
+/// Appends the length of a list in a field of two bytes.
+pub fn put_count16(out: &mut Bytes, count: usize) -> Result<(), AllocError>
+    requires { number16.fits count ≡ true }
+    ensures { OnOk result (out.new ≡ out.old ++ number16.spell count) }
+{
+    put_u16(out, count as u16)
+}
+
+/// Appends the length of a list in a field of four bytes.
+pub fn put_count32(out: &mut Bytes, count: usize) -> Result<(), AllocError>
+    requires { number32.fits count ≡ true }
+    ensures { OnOk result (out.new ≡ out.old ++ number32.spell count) }
+{
+    put_u32(out, count as u32)
+}
+
 /// Appends a length of four bytes and the bytes.
-#[tactic(auto, unfolding(crate::specs::Formats::block))]
 pub fn put_text(out: &mut Bytes, bytes: &[u8]) -> Result<(), AllocError>
     requires { text.fits bytes.now ≡ true }
     ensures { OnOk result (out.new ≡ out.old ++ text.spell bytes.now) }
 {
-    put_u32(out, bytes.len() as u32)?;
+    put_count32(out, bytes.len())?;
     out.append(bytes)
 }

@@ -1,3 +1,5 @@
+//! Copies of receives, pairs and messages.
+
 ghost use Rattle.std.specs.Prelude.{◌≡◌, IfOk};
 
 use mpi_types::{MatchedPair, Message, Posted, Sequence};

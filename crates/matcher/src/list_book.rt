@@ -1,8 +1,10 @@
+//! The plain book.
+
 ghost use Rattle.std.specs.Prelude.{◌≡◌, []};
 
 use crate::copies::{copied_messages, copied_pairs, copied_receives};
 use crate::search::{
-    first_accepted, first_accepting, first_for, pair_at, place_of, put_pair, receive_at,
+    first_accepted, first_accepting, first_for, is_posted, pair_at, place_of, put_pair, receive_at,
 };
 use mpi_types::{
     BookLists, Completion, Ctx, Hit, MatchBook, MatchedPair, Message, Posted, Sequence,
@@ -90,6 +92,18 @@ impl MatchBook for ListBook {
             }
             None => Completion::NotYet,
         }
+    }
+
+    fn is_live(&self, request: u32) -> bool {
+        match pair_at(self.matched.as_slice(), request) {
+            Some(_) => true,
+            None => is_posted(self.posted.as_slice(), request),
+        }
+    }
+
+    fn live(&self) -> u32 {
+        let count = self.posted.len() + self.matched.len();
+        u32::try_from(count).unwrap_or(u32::MAX)
     }
 
     fn matched(&self, request: u32) -> bool {

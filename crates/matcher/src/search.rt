@@ -1,4 +1,6 @@
-ghost use Rattle.std.specs.Prelude.{◌≡◌, ◌≢◌, MatchOption, All, AllPairs, ◌<◌, ◌≤◌, length, vec_len, vec_capacity};
+//! Finding what a receive or a message meets first.
+
+ghost use Rattle.std.specs.Prelude.{◌≡◌, ◌≢◌, ◌↔◌, IsTrue, MatchOption, All, Any, AllPairs, ◌<◌, ◌≤◌, length, vec_len, vec_capacity};
 ghost use Rattle.std.specs.List.{insert};
 ghost use Rattle.mpi_types.specs.Accepts.{Accepts, IsAcceptedBy};
 ghost use Rattle.mpi_types.specs.First.{NoneOf};
@@ -52,6 +54,13 @@ pub fn receive_at(posted: &[Posted], request: u32) -> Option<usize>
         }
     }
     None
+}
+
+/// Whether the receive of this request is there.
+pub fn is_posted(posted: &[Posted], request: u32) -> bool
+    ensures { IsTrue result ↔ Any (λ r. r.request ≡ request) posted.now }
+{
+    posted.iter().any(|r| r.request == request)
 }
 
 /// Where the pair of this request stands.

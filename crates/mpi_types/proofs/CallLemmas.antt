@@ -4,12 +4,12 @@ use Rattle.std.specs.Prelude.{IsTrue, MatchOption}
 use Rattle.mpi_types.specs.declared.message.Message.{Message}
 use Rattle.mpi_types.specs.declared.lists.BookLists.{BookLists}
 use Rattle.mpi_types.specs.declared.calls.BookCall.{BookCall}
-use Rattle.mpi_types.specs.declared.calls.BookCall.TheVariants.{Post, Arrive, Complete, AskMatched, AskReceive, AskMessage, Peek, AskLists}
+use Rattle.mpi_types.specs.declared.calls.BookCall.TheVariants.{Post, Arrive, Complete, AskLive, AskMatched, AskReceive, AskMessage, Peek, AskLists, AskCount}
 use Rattle.mpi_types.specs.declared.calls.BookAnswer.{BookAnswer}
-use Rattle.mpi_types.specs.declared.calls.BookAnswer.TheVariants.{Met, Completed, Matched, Receive, Found}
+use Rattle.mpi_types.specs.declared.calls.BookAnswer.TheVariants.{Met, Completed, Live, Matched, Receive, Found}
 use Rattle.mpi_types.specs.Accepts.{Accepts}
 use Rattle.mpi_types.specs.First.{NoneOf, IsFirstOf}
-use Rattle.mpi_types.specs.Book.{IsWaiting, IsMatched, IsMessageOf, IsOrderly}
+use Rattle.mpi_types.specs.Book.{IsWaiting, IsMatched, IsLive, IsMessageOf, IsOrderly}
 use Rattle.mpi_types.specs.Calls.{MayAsk, Answers, IsAsked, IsRun}
 use Rattle.mpi_types.proofs.BookLemmas.{Posts-orderly, Arrives-orderly, Completes-orderly}
 use Rattle.mpi_types.proofs.OnceLemmas.{none_and_first, firsts_same, Posts-once, Arrives-once, Completes-once, waiting_and_matched, receive_once, message_once}
@@ -46,6 +46,8 @@ answers_once old (Arrive message) x y new new' orderly p q =
     let same = Arrives-once old message p.0 q.0 new new' p.2 q.2 in (p.1 ∙ ap Met same.0 ∙ sym q.1, same.1)
 answers_once old (Complete request) x y new new' orderly p q =
     let same = Completes-once old request p.0 q.0 new new' orderly p.2 q.2 in (p.1 ∙ ap Completed same.0 ∙ sym q.1, same.1)
+answers_once old (AskLive request) x y new new' orderly p q =
+    (p.1 ∙ ap Live (truth_once (IsLive old request) p.0 q.0 p.2 q.2) ∙ sym q.1, p.3 ∙ sym q.3)
 answers_once old (AskMatched request) x y new new' orderly p q =
     (p.1 ∙ ap Matched (truth_once (IsMatched old request) p.0 q.0 p.2 q.2) ∙ sym q.1, p.3 ∙ sym q.3)
 answers_once old (AskReceive request) x y new new' orderly p q =
@@ -55,6 +57,7 @@ answers_once old (AskMessage request) x y new new' orderly p q =
 answers_once old (Peek envelope) x y new new' orderly p q =
     (p.1 ∙ ap Found (peeked_once (Accepts envelope.ctx envelope.source envelope.tag) old.arrived p.0 q.0 p.2 q.2) ∙ sym q.1, p.3 ∙ sym q.3)
 answers_once old AskLists x y new new' orderly p q = (p.0 ∙ sym q.0, p.1 ∙ sym q.1)
+answers_once old AskCount x y new new' orderly p q = (p.0 ∙ sym q.0, p.1 ∙ sym q.1)
 
 asked_once : (old : BookLists) (call : BookCall) (x y : BookAnswer) (new new' : BookLists) → IsOrderly old
     → IsAsked old call x new → IsAsked old call y new' → (x ≡ y) × (new ≡ new')
@@ -68,11 +71,13 @@ answers_orderly : (old : BookLists) (call : BookCall) (x : BookAnswer) (new : Bo
 answers_orderly old (Post receive) x new may p orderly = Posts-orderly old receive p.0 new p.2 may orderly
 answers_orderly old (Arrive message) x new may p orderly = Arrives-orderly old message p.0 new p.2 orderly
 answers_orderly old (Complete request) x new may p orderly = Completes-orderly old request p.0 new p.2 orderly
+answers_orderly old (AskLive request) x new may p orderly = subst IsOrderly (sym p.3) orderly
 answers_orderly old (AskMatched request) x new may p orderly = subst IsOrderly (sym p.3) orderly
 answers_orderly old (AskReceive request) x new may p orderly = subst IsOrderly (sym p.3) orderly
 answers_orderly old (AskMessage request) x new may p orderly = subst IsOrderly (sym p.3) orderly
 answers_orderly old (Peek envelope) x new may p orderly = subst IsOrderly (sym p.3) orderly
 answers_orderly old AskLists x new may p orderly = subst IsOrderly (sym p.1) orderly
+answers_orderly old AskCount x new may p orderly = subst IsOrderly (sym p.1) orderly
 
 asked_orderly : (old : BookLists) (call : BookCall) (x : BookAnswer) (new : BookLists)
     → IsAsked old call x new → IsOrderly old → IsOrderly new

@@ -3,3 +3,8 @@ pub mod BookLemmas
 pub mod OnceLemmas
 pub mod CallLemmas
 pub mod RunLemmas
+pub mod ReduceLemmas
+pub mod SoundLemmas
+pub mod GroupLemmas
+pub mod AcceptLemmas
+pub mod KeepLemmas

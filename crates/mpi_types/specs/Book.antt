@@ -1,5 +1,5 @@
 -- What a book of receives and messages stands for: three lists.
-use Rattle.std.specs.Prelude.{ℕ, ◌≡◌, ◌≢◌, ◌<◌, ◌⊎◌, All, AllPairs, Any, Contains}
+use Rattle.std.specs.Prelude.{ℕ, ◌≡◌, ◌≢◌, ◌+◌, ◌<◌, ◌⊎◌, length, All, AllPairs, Any, Contains}
 use Rattle.mpi_types.specs.declared.message.Message.{Message}
 use Rattle.mpi_types.specs.declared.message.Posted.{Posted}
 use Rattle.mpi_types.specs.declared.lists.BookLists.{BookLists}
@@ -17,6 +17,10 @@ IsMatched l n = Any (λ pair. pair.receive.request ≡ n) l.matched
 -- the request is live: it isn't completed yet
 abbrev pub IsLive : BookLists → ℕ → Type 0
 IsLive l n = IsWaiting l n ⊎ IsMatched l n
+
+-- how many requests are live
+abbrev pub live_count : BookLists → ℕ
+live_count l = length l.posted + length l.matched
 
 -- the number is greater than that of every live request
 pub record IsNext (l : BookLists) (n : ℕ) : Type 0 where

@@ -1,5 +1,5 @@
 -- What a book answers over a list of calls.
-use Rattle.std.specs.Prelude.{◌≡◌, ◌⊎◌, ◌↔◌, Bool, IsTrue, List, [], ◌∷◌, Option, MatchOption}
+use Rattle.std.specs.Prelude.{◌≡◌, ◌-◌, ◌^◌, ◌⊎◌, ◌↔◌, min, Bool, IsTrue, List, [], ◌∷◌, Option, MatchOption}
 use Rattle.mpi_types.specs.declared.message.Message.{Message}
 use Rattle.mpi_types.specs.declared.message.Posted.{Posted}
 use Rattle.mpi_types.specs.declared.message.Hit.{Hit}
@@ -7,12 +7,12 @@ use Rattle.mpi_types.specs.declared.lists.BookLists.{BookLists}
 use Rattle.mpi_types.specs.declared.book.Completion.{Completion}
 use Rattle.mpi_types.specs.declared.calls.Envelope.{Envelope}
 use Rattle.mpi_types.specs.declared.calls.BookCall.{BookCall}
-use Rattle.mpi_types.specs.declared.calls.BookCall.TheVariants.{Post, Arrive, Complete, AskMatched, AskReceive, AskMessage, Peek, AskLists}
+use Rattle.mpi_types.specs.declared.calls.BookCall.TheVariants.{Post, Arrive, Complete, AskLive, AskMatched, AskReceive, AskMessage, Peek, AskLists, AskCount}
 use Rattle.mpi_types.specs.declared.calls.BookAnswer.{BookAnswer}
-use Rattle.mpi_types.specs.declared.calls.BookAnswer.TheVariants.{Met, Completed, Matched, Receive, Found, Lists, Refused}
+use Rattle.mpi_types.specs.declared.calls.BookAnswer.TheVariants.{Met, Completed, Live, Matched, Receive, Found, Lists, Count, Refused}
 use Rattle.mpi_types.specs.Accepts.{Accepts}
 use Rattle.mpi_types.specs.First.{NoneOf, IsFirstOf}
-use Rattle.mpi_types.specs.Book.{IsWaiting, IsMatched, IsLive, IsNext, IsReceiveOf, IsMessageOf}
+use Rattle.mpi_types.specs.Book.{IsWaiting, IsMatched, IsLive, live_count, IsNext, IsReceiveOf, IsMessageOf}
 use Rattle.mpi_types.specs.Post.{Posts, Arrives, Completes}
 
 -- the call's condition
@@ -20,11 +20,13 @@ abbrev pub MayAsk : BookLists → BookCall → Type 0
 MayAsk l (Post receive) = IsNext l receive.request
 MayAsk l (Arrive message) = Unit {0}
 MayAsk l (Complete request) = IsLive l request
+MayAsk l (AskLive request) = Unit {0}
 MayAsk l (AskMatched request) = IsLive l request
 MayAsk l (AskReceive request) = IsLive l request
 MayAsk l (AskMessage request) = IsLive l request
 MayAsk l (Peek envelope) = Unit {0}
 MayAsk l AskLists = Unit {0}
+MayAsk l AskCount = Unit {0}
 
 -- the first arrived message that a receive with these values accepts
 abbrev pub IsPeeked : BookLists → Envelope → Option Message → Type 0
@@ -38,6 +40,8 @@ Answers old (Post receive) answer new = (hit : Option Hit) × (answer ≡ Met hi
 Answers old (Arrive message) answer new = (hit : Option Hit) × (answer ≡ Met hit) × Arrives old message hit new
 Answers old (Complete request) answer new =
     (completion : Completion) × (answer ≡ Completed completion) × Completes old request completion new
+Answers old (AskLive request) answer new =
+    (live : Bool) × (answer ≡ Live live) × (IsTrue live ↔ IsLive old request) × (new ≡ old)
 Answers old (AskMatched request) answer new =
     (matched : Bool) × (answer ≡ Matched matched) × (IsTrue matched ↔ IsMatched old request) × (new ≡ old)
 Answers old (AskReceive request) answer new =
@@ -48,6 +52,7 @@ Answers old (AskMessage request) answer new =
 Answers old (Peek envelope) answer new =
     (message : Option Message) × (answer ≡ Found message) × IsPeeked old envelope message × (new ≡ old)
 Answers old AskLists answer new = (answer ≡ Lists old) × (new ≡ old)
+Answers old AskCount answer new = (answer ≡ Count (min (live_count old) (2 ^ 32 - 1))) × (new ≡ old)
 
 -- one call: a call whose condition doesn't hold is refused and changes nothing
 abbrev pub IsAsked : BookLists → BookCall → BookAnswer → BookLists → Type 0

@@ -6,3 +6,8 @@ pub mod Tables
 pub mod Runs
 pub mod Journal
 pub mod Calls
+pub mod Come
+pub mod Reduce
+pub mod Collected
+pub mod Groups
+pub mod Order

@@ -1,5 +1,5 @@
 -- What posting, arrival and completion do to the three lists of a book (MPI 3.1, sections 3.5 and 3.7).
-use Rattle.std.specs.Prelude.{ℕ, ◌≡◌, ◌<◌, List, [], ◌∷◌, ◌++◌, All, Option, None, Some}
+use Rattle.std.specs.Prelude.{ℕ, ◌≡◌, ◌<◌, nat_lt, if◌then◌else◌, List, [], ◌∷◌, ◌++◌, All, Option, None, Some}
 use Rattle.mpi_types.specs.declared.message.Message.{Message}
 use Rattle.mpi_types.specs.declared.message.Posted.{Posted}
 use Rattle.mpi_types.specs.declared.message.Hit.{Hit}
@@ -19,6 +19,16 @@ pub record IsInserted (old new : List MatchedPair) (pair : MatchedPair) : Type 0
   pub now : new ≡ lower ++ pair ∷ higher
   pub all_lower : All (λ p. p.receive.request < pair.receive.request) lower
   pub all_higher : All (λ p. pair.receive.request < p.receive.request) higher
+
+-- the list with the pair at its place by request
+abbrev pub with_pair : MatchedPair → List MatchedPair → List MatchedPair
+with_pair pair [] = pair ∷ []
+with_pair pair (p ∷ pairs) =
+    if nat_lt pair.receive.request p.receive.request then pair ∷ p ∷ pairs else p ∷ with_pair pair pairs
+
+-- a pair stands at its one place
+abbrev pub InsertionIsOnePlace : Type 0
+InsertionIsOnePlace = (old new : List MatchedPair) (pair : MatchedPair) → IsInserted old new pair → new ≡ with_pair pair old
 
 -- who has met whom
 abbrev pub hit_of : Posted → Message → Hit

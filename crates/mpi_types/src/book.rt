@@ -1,4 +1,6 @@
-ghost use Rattle.std.specs.Prelude.{◌≡◌, ◌↔◌, IsTrue, MatchOption, IfOk, OnErr};
+//! What a book is, in which messages and receives meet.
+
+ghost use Rattle.std.specs.Prelude.{◌≡◌, ◌↔◌, min, IsTrue, MatchOption, IfOk, OnErr};
 ghost use Rattle.mpi_types.specs.Accepts.{Accepts};
 ghost use Rattle.mpi_types.specs.First.{NoneOf, IsFirstOf};
 
@@ -18,7 +20,7 @@ pub enum Completion {
 /// its posting until its completion. How a book is kept is free.
 pub trait MatchBook {
     ghost use Rattle.mpi_types.specs.declared.lists.BookLists.{BookLists};
-    ghost use Rattle.mpi_types.specs.Book.{IsOrderly, IsSettled, IsLive, IsNext, IsMatched, IsWaiting, IsReceiveOf, IsMessageOf};
+    ghost use Rattle.mpi_types.specs.Book.{IsOrderly, IsSettled, IsLive, live_count, IsNext, IsMatched, IsWaiting, IsReceiveOf, IsMessageOf};
     ghost use Rattle.mpi_types.specs.Post.{Posts, Arrives, Completes};
 
     // The three lists that the book stands for.
@@ -46,20 +48,33 @@ pub trait MatchBook {
         ensures settled { IsSettled (held self.old) → IsSettled (held self.new) }
         ensures orderly { IsOrderly (held self.new) };
 
+    /// Whether the request is live.
+    fn is_live(&self, request: u32) -> bool
+        ensures told { IsTrue result ↔ IsLive (held self.now) request }
+        ensures orderly { IsOrderly (held self.now) };
+
+    /// How many requests are live, or the greatest `u32` where they are more.
+    fn live(&self) -> u32
+        ensures told { result ≡ min (live_count (held self.now)) u32.MAX }
+        ensures orderly { IsOrderly (held self.now) };
+
     /// Whether a live request has its message.
     fn matched(&self, request: u32) -> bool
         requires { IsLive (held self.now) request }
-        ensures { IsTrue result ↔ IsMatched (held self.now) request };
+        ensures told { IsTrue result ↔ IsMatched (held self.now) request }
+        ensures orderly { IsOrderly (held self.now) };
 
     /// The receive of a live request.
     fn posted(&self, request: u32) -> &Posted
         requires { IsLive (held self.now) request }
-        ensures { IsReceiveOf (held self.now) request result.now };
+        ensures told { IsReceiveOf (held self.now) request result.now }
+        ensures orderly { IsOrderly (held self.now) };
 
     /// The message that a live request has.
     fn found(&self, request: u32) -> Option<&Message>
         requires { IsLive (held self.now) request }
-        ensures { MatchOption result (IsWaiting (held self.now) request) (λ m. IsMessageOf (held self.now) request m.now) };
+        ensures told { MatchOption result (IsWaiting (held self.now) request) (λ m. IsMessageOf (held self.now) request m.now) }
+        ensures orderly { IsOrderly (held self.now) };
 
     /// The first arrived message that a receive with this context, source and tag accepts.
     fn peek(&self, ctx: &Ctx, source: i32, tag: i32) -> Option<&Message>

@@ -1,3 +1,5 @@
+//! The calls of a book as values, and the law that books agree.
+
 ghost use Rattle.std.specs.Prelude.{◌≡◌, ◌↔◌, List, IsTrue, IfOk, OnErr};
 ghost use Rattle.mpi_types.specs.declared.calls.BookCall.{BookCall};
 ghost use Rattle.mpi_types.specs.declared.calls.BookAnswer.{BookAnswer};
@@ -24,11 +26,13 @@ pub enum BookCall {
     Post(Posted),
     Arrive(Message),
     Complete(u32),
+    AskLive(u32),
     AskMatched(u32),
     AskReceive(u32),
     AskMessage(u32),
     Peek(Envelope),
     AskLists,
+    AskCount,
 }
 
 /// What a call of a book answers.
@@ -37,10 +41,13 @@ pub enum BookAnswer {
     /// Of a post or an arrival: who has met whom.
     Met(Option<Hit>),
     Completed(Completion),
+    Live(bool),
     Matched(bool),
     Receive(Posted),
     Found(Option<Message>),
     Lists(BookLists),
+    /// How many requests are live.
+    Count(u32),
     /// The call's condition doesn't hold.
     Refused,
 }
@@ -68,6 +75,7 @@ pub fn ask<B: MatchBook>(
             Ok(BookAnswer::Met(hit))
         }
         BookCall::Complete(request) => Ok(BookAnswer::Completed(book.complete(request))),
+        BookCall::AskLive(request) => Ok(BookAnswer::Live(book.is_live(request))),
         BookCall::AskMatched(request) => Ok(BookAnswer::Matched(book.matched(request))),
         BookCall::AskReceive(request) => {
             let receive = book.posted(request).copied(alloc)?;
@@ -82,6 +90,7 @@ pub fn ask<B: MatchBook>(
             Ok(BookAnswer::Found(message))
         }
         BookCall::AskLists => Ok(BookAnswer::Lists(lists)),
+        BookCall::AskCount => Ok(BookAnswer::Count(book.live())),
     }
 }
 
@@ -111,7 +120,11 @@ fn may_ask(lists: &BookLists, call: &BookCall) -> bool
         | BookCall::AskMatched(request)
         | BookCall::AskReceive(request)
         | BookCall::AskMessage(request) => lists.is_live(*request),
-        BookCall::Arrive(_) | BookCall::Peek(_) | BookCall::AskLists => true,
+        BookCall::Arrive(_)
+        | BookCall::AskLive(_)
+        | BookCall::Peek(_)
+        | BookCall::AskLists
+        | BookCall::AskCount => true,
     }
 }
 

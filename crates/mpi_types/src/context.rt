@@ -1,3 +1,5 @@
+//! The contexts of communicators.
+
 ghost use Rattle.std.specs.Prelude.{◌≡◌, ◌≤◌, ◌<◌, ◌↔◌, [], ◌∷◌, ◌++◌, length, IsTrue, IfOk};
 
 use std::alloc::{AllocError, Global};

@@ -1,3 +1,5 @@
+//! The entries of a history.
+
 use am_base::RankId;
 
 /// What can stand in a history.

@@ -1,4 +1,6 @@
-ghost use Rattle.std.specs.Prelude.{◌≡◌, ◌↔◌, ◌+◌, ◌<◌, ◌^◌, [], ◌∷◌, ◌++◌, replicate, length, slice_get, IsTrue, IfOk, IfSome, IfNone, OnOk, OnErr};
+//! Histories.
+
+ghost use Rattle.std.specs.Prelude.{◌≡◌, ◌↔◌, ◌+◌, ◌<◌, ◌^◌, [], ◌∷◌, ◌++◌, replicate, take, length, slice_get, IsTrue, IfOk, IfSome, IfNone, OnOk, OnErr};
 ghost use Rattle.mpi_types.specs.Runs.{MayRepeat, run_behind, are_one_run, runs_of, entries_of};
 
 use crate::{Entry, EntryRun};
@@ -44,6 +46,13 @@ impl History {
             return Ok(());
         }
         add_run(&mut self.runs, run)
+    }
+
+    /// Keeps the first runs, so many, and forgets what stands behind them.
+    pub fn keep(&mut self, count: usize)
+        ensures { self.new ≡ entries_of (take count (runs_of self.old)) }
+    {
+        self.runs.truncate(count);
     }
 
     /// The history as runs, each as long as equal entries stand in a row.

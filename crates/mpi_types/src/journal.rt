@@ -1,3 +1,5 @@
+//! The journal of a history.
+
 ghost use Rattle.std.specs.Prelude.{◌≡◌, ◌++◌, OnOk};
 ghost use Rattle.mpi_types.specs.Journal.{header_line, run_line, run_lines};
 

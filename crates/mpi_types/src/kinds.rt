@@ -1,7 +1,9 @@
+//! Datatypes and operations.
+
 ghost use Rattle.std.specs.Prelude.{◌≡◌, ◌≢◌, pos, MatchOption};
 ghost use Rattle.mpi_types.specs.declared.kinds.Datatype.{Datatype};
 ghost use Rattle.mpi_types.specs.declared.kinds.Operation.{Operation};
-ghost use Rattle.mpi_types.specs.Tables.{datatype_number, datatype_size, operation_number};
+ghost use Rattle.mpi_types.specs.Tables.{datatype_number, datatype_size, datatype_of, has_operation, operation_number, operation_of, is_on_bits};
 
 /// The datatypes of messages (MPI 3.1, section 3.2.2). Each is `MPI_` and its name in capitals.
 #[derive(Clone, Copy, Debug, PartialEq, Eq)]
@@ -61,6 +63,33 @@ impl Datatype {
             12 => Datatype::UnsignedLongLong,
             _ => return None,
         })
+    }
+
+    /// The datatype of a number in an argument.
+    pub fn of_byte(number: u8) -> Option<Datatype>
+        ensures { result ≡ datatype_of number }
+    {
+        Datatype::of_number(i32::from(number))
+    }
+
+    /// Whether the operation is defined for its elements: `MPI_BYTE` has those on bits alone (MPI 3.1, section 5.9.2).
+    pub fn has(self, operation: Operation) -> bool
+        ensures { result ≡ has_operation self operation }
+    {
+        match self {
+            Datatype::Byte => operation.is_on_bits(),
+            Datatype::Char
+            | Datatype::SignedChar
+            | Datatype::UnsignedChar
+            | Datatype::Short
+            | Datatype::UnsignedShort
+            | Datatype::Int
+            | Datatype::Unsigned
+            | Datatype::Long
+            | Datatype::UnsignedLong
+            | Datatype::LongLong
+            | Datatype::UnsignedLongLong => true,
+        }
     }
 
     /// How many bytes an element has.
@@ -127,5 +156,27 @@ impl Operation {
             9 => Operation::Bxor,
             _ => return None,
         })
+    }
+
+    /// The operation of a number in an argument.
+    pub fn of_byte(number: u8) -> Option<Operation>
+        ensures { result ≡ operation_of number }
+    {
+        Operation::of_number(i32::from(number))
+    }
+
+    /// Whether it works on bits.
+    pub fn is_on_bits(self) -> bool
+        ensures { result ≡ is_on_bits self }
+    {
+        match self {
+            Operation::Band | Operation::Bor | Operation::Bxor => true,
+            Operation::Sum
+            | Operation::Prod
+            | Operation::Max
+            | Operation::Min
+            | Operation::Land
+            | Operation::Lor => false,
+        }
     }
 }

@@ -1,3 +1,5 @@
+//! The lists that a book stands for.
+
 ghost use Rattle.std.specs.Prelude.{◌≡◌, ◌↔◌, IsTrue, IfOk};
 
 use crate::{Message, Posted, Sequence};

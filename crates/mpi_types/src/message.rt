@@ -1,3 +1,5 @@
+//! Messages and posted receives.
+
 ghost use Rattle.std.specs.Prelude.{◌≡◌, ◌↔◌, IsTrue, IfOk};
 ghost use Rattle.mpi_types.specs.Accepts.{Accepts, IsAcceptedBy};
 

@@ -1,3 +1,5 @@
+//! A `Vec` as a list.
+
 ghost use Rattle.std.specs.Prelude.{◌≡◌, ◌↔◌, [], ◌∷◌, ◌++◌, length, IsTrue, OnOk, OnErr};
 
 use std::alloc::{AllocError, Global};

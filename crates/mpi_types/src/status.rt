@@ -1,3 +1,5 @@
+//! The status of a receive.
+
 ghost use Rattle.std.specs.Prelude.{◌≡◌, pos, length};
 
 use crate::{ANY_SOURCE, ANY_TAG, Message, PROC_NULL};

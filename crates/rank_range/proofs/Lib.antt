@@ -1,3 +1,11 @@
 pub mod NumberLemmas
 pub mod AreaLemmas
 pub mod HeapLemmas
+pub mod KindLemmas
+pub mod OperatorLemmas
+pub mod LineLemmas
+pub mod PartLemmas
+pub mod AccessLemmas
+pub mod ChangeLemmas
+pub mod FitLemmas
+pub mod TextLemmas

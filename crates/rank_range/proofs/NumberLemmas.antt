@@ -1,5 +1,5 @@
 -- Numbers in a list of bytes after one of them was stored.
-use Rattle.std.proofs.Common.{◌≡◌, ℕ, zero, suc, ◌+◌, ◌-◌, ◌^◌, ◌<◌, ◌≤◌, ◌⊎◌, inl, inr, lit≤, List, ◌∷◌, ◌++◌, ◌∙◌, length, get_or, take, drop, slice_index, refl, sym, ap, subst, arith, length-append}
+use Rattle.std.proofs.Common.{◌≡◌, ℕ, zero, suc, ◌+◌, ◌-◌, ◌*◌, ◌^◌, ◌<◌, ◌≤◌, ◌⊎◌, inl, inr, lit≤, List, ◌∷◌, ◌++◌, ◌∙◌, length, get_or, take, drop, slice_index, refl, sym, ap, subst, arith, length-append}
 use Rattle.std.proofs.Math.Seq.{drop-append_seam, take-append_seam as take_seam}
 use Rattle.std.proofs.lemmas.List.{get_or-drop, get_or-take, get_or-append_right, length-take-le, length-drop, drop-drop}
 use Rattle.byteorder.specs.Endian.{little_from, little_number, little_bytes}
@@ -11,7 +11,7 @@ use Rattle.rank_range.specs.declared.width.Width.{Width}
 use Rattle.rank_range.specs.declared.width.Width.TheVariants.{One, Two, Four, Eight}
 
 -- equal bytes make equal numbers
-same_bytes : (i n : ℕ) (xs ys : List ℕ) → ((j : ℕ) → j < i + n → slice_index xs j ≡ slice_index ys j)
+pub same_bytes : (i n : ℕ) (xs ys : List ℕ) → ((j : ℕ) → j < i + n → slice_index xs j ≡ slice_index ys j)
     → little_from i n xs ≡ little_from i n ys
 same_bytes i zero xs ys same = refl
 same_bytes i (suc n) xs ys same =
@@ -88,6 +88,13 @@ read_is bytes at n count x same room e =
     e ∙ little_from-take 0 count (length bytes - at) (drop at bytes) (omega arith)
     ∙ ap (λ (k : ℕ). little_number k (drop at bytes)) same
 
+pub byte_is : (bytes : List ℕ) (at : ℕ) → slice_index bytes at ≡ number_at bytes at 1
+unfolding number_at
+byte_is bytes at =
+    let more : get_or (drop at bytes) 0 0 + 256 * 0 ≡ get_or (drop at bytes) 0 0 = omega arith in
+    let same : at + 0 ≡ at = omega arith in
+    sym (more ∙ get_or-drop at bytes 0 0 ∙ ap (λ (k : ℕ). get_or bytes k 0) same)
+
 -- the lowest bytes stand first
 lowest : (i k n x : ℕ) → n ≤ k → take n (bytes_low_first i k x) ≡ bytes_low_first i n x
 lowest i k zero x h = refl
@@ -105,6 +112,10 @@ written bytes at n count k v field new same few part is copied =
     ap (λ (j : ℕ). drop j (drop at bytes)) part ∙ drop-drop n at bytes in
     ap (λ (xs : List ℕ). take at bytes ++ (xs ++ drop k (drop at bytes))) low
     ∙ ap (λ (xs : List ℕ). take at bytes ++ (little_bytes n v ++ xs)) rest
+
+-- all eight bytes
+pub whole_field : (v : ℕ) (field : List ℕ) → field ≡ to_le_bytes w64 v → field ≡ take 8 field
+whole_field v field is = is ∙ ap (take 8) (sym is)
 
 -- no width has more than eight bytes
 pub at_most_eight : (width : Width) → bytes_in width ≤ 8

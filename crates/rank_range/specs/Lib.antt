@@ -1,4 +1,11 @@
 pub mod Layout
 pub mod Numbers
+pub mod Parts
 pub mod Heap
 pub mod Nodes
+pub mod Kinds
+pub mod Operators
+pub mod Output
+pub mod Areas
+pub mod Formats
+pub mod Library

@@ -1,8 +1,8 @@
 -- How a rank's bytes spell its heap: a header of four numbers, and nodes of 16 bytes that are linked by their numbers.
 -- This profile's own.
-use Rattle.std.specs.Prelude.{ℕ, ◌≡◌, ◌+◌, ◌*◌, ◌<◌, ◌≤◌, ◌==◌, ◌⊎◌, ⊤, if◌then◌else◌, List, [], ◌∷◌, ◌++◌, length, slice_index}
+use Rattle.std.specs.Prelude.{ℕ, zero, suc, ◌≡◌, ◌+◌, ◌*◌, ◌<◌, ◌≤◌, ◌==◌, ◌⊎◌, ⊤, if◌then◌else◌, nat_lt, List, [], ◌∷◌, ◌++◌, length, slice_index}
 use Rattle.std.specs.List.{All}
-use Rattle.rank_range.specs.Layout.{base_of, descriptors_start, heap_start}
+use Rattle.rank_range.specs.Layout.{base_of, descriptors_start, globals_start, heap_start}
 use Rattle.rank_range.specs.Numbers.{number_at}
 use Rattle.rank_range.specs.Heap.{most_blocks}
 use Rattle.rank_range.specs.declared.heap.Block.{Block}
@@ -135,6 +135,33 @@ pub record SpellsBlocks (rank : ℕ) (bytes : List ℕ) (blocks : List Block) : 
   pub unused : List ℕ
   pub sound : IsSoundHeap bytes used unused
   pub are : blocks ≡ pieces_of rank bytes 2 used
+
+-- the node of that number and those behind it, by their links, and no more than so many
+abbrev pub chain_of : List ℕ → ℕ → ℕ → List ℕ
+chain_of bytes zero number = []
+chain_of bytes (suc k) number =
+    if nat_lt number node_count then number ∷ chain_of bytes k (node_at bytes number).next else []
+
+-- the live blocks of a rank, in the order of their addresses
+unfoldable pub blocks_of : ℕ → List ℕ → List Block
+blocks_of rank bytes = pieces_of rank bytes 2 (chain_of bytes heap_units (first_node bytes))
+
+-- The rank's bytes spell a heap with these live blocks.
+abbrev pub HasHeap : ℕ → List ℕ → Type 0
+HasHeap rank bytes = SpellsBlocks rank bytes (blocks_of rank bytes)
+
+-- The bytes in which a heap is spelled are as they were: the header's page, and the descriptors.
+abbrev pub HeapBytesStay : List ℕ → List ℕ → Type 0
+HeapBytesStay old new =
+    (i : ℕ) → (i < 4096) ⊎ ((descriptors_start ≤ i) × (i < globals_start)) → slice_index new i ≡ slice_index old i
+
+-- So no other byte tells which blocks are read along the links.
+abbrev pub BlocksStay : Type 0
+BlocksStay = (rank : ℕ) (old new : List ℕ) → HeapBytesStay old new → blocks_of rank new ≡ blocks_of rank old
+
+-- The blocks that the rank's bytes spell are those that are read along the links.
+abbrev pub AreSpelled : Type 0
+AreSpelled = (rank : ℕ) (bytes : List ℕ) (blocks : List Block) → SpellsBlocks rank bytes blocks → blocks ≡ blocks_of rank bytes
 
 -- No bytes spell two lists of live blocks.
 abbrev pub IsOneHeap : Type 0

@@ -1,9 +1,12 @@
+//! A rank's memory as one block of bytes.
+
 ghost use Rattle.std.specs.Prelude.{◌≡◌, ◌+◌, ◌-◌, ◌≤◌, ℕ, true, length, slice_index, IfOk};
 ghost use Rattle.rank_range.specs.Layout.{base_of, range_bytes, stack_start};
 
+use crate::parts::{copy_part, fill_part, part_of, put_part};
 use crate::{
-    BadAddress, Mem, RANGE_BYTES, STACK_START, Width, is_accessible, place_of, read_number,
-    write_number,
+    BadAddress, Mem, RANGE_BYTES, STACK_START, Width, is_accessible, place_of, place_of_bytes,
+    read_number, write_number,
 };
 use am_base::RankId;
 use std::alloc::{AllocError, Global};
@@ -70,6 +73,43 @@ impl Mem for FlatMem {
     fn store(&mut self, a: u64, width: Width, value: u64) -> Result<(), BadAddress> {
         let at = place_of(self.rank, self.top, a, width)?;
         write_number(self.bytes.as_mut_slice(), at, width, value);
+        Ok(())
+    }
+
+    fn view(&self, a: u64, n: u64) -> Result<&[u8], BadAddress> {
+        if n == 0 {
+            return Ok(&[]);
+        }
+        let at = place_of_bytes(self.rank, self.top, a, n)?;
+        Ok(part_of(self.bytes.as_slice(), at, n as usize))
+    }
+
+    fn write(&mut self, a: u64, bytes: &[u8]) -> Result<(), BadAddress> {
+        let n = bytes.len() as u64;
+        if n == 0 {
+            return Ok(());
+        }
+        let at = place_of_bytes(self.rank, self.top, a, n)?;
+        put_part(self.bytes.as_mut_slice(), at, bytes);
+        Ok(())
+    }
+
+    fn copy(&mut self, to: u64, from: u64, n: u64) -> Result<(), BadAddress> {
+        if n == 0 {
+            return Ok(());
+        }
+        let there = place_of_bytes(self.rank, self.top, from, n)?;
+        let here = place_of_bytes(self.rank, self.top, to, n)?;
+        copy_part(self.bytes.as_mut_slice(), here, there, n as usize);
+        Ok(())
+    }
+
+    fn fill(&mut self, a: u64, n: u64, byte: u8) -> Result<(), BadAddress> {
+        if n == 0 {
+            return Ok(());
+        }
+        let at = place_of_bytes(self.rank, self.top, a, n)?;
+        fill_part(self.bytes.as_mut_slice(), at, n as usize, byte);
         Ok(())
     }
 

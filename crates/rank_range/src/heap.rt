@@ -1,8 +1,8 @@
 //! The plain, slow first fit over a list of blocks, and laws on what a heap is.
 ghost use Rattle.std.specs.Prelude.{◌≡◌, ◌↔◌, ◌+◌, ◌<◌, ◌≤◌, ◌^◌, IsTrue};
 ghost use Rattle.std.specs.List.{All};
-ghost use Rattle.rank_range.specs.Heap.{rounded, IsApart, Fits, IsFirstFit, IsOneFit};
-ghost use Rattle.rank_range.specs.Nodes.{IsOneHeap};
+ghost use Rattle.rank_range.specs.Heap.{rounded, IsApart, Fits, IsFirstFit, IsOneFit, AreFirstFits};
+ghost use Rattle.rank_range.specs.Nodes.{IsOneHeap, AreSpelled, BlocksStay};
 
 use crate::{HEAP_START, STACK_START, base};
 use am_base::RankId;
@@ -73,7 +73,15 @@ pub fn first_fit_is_one()
     ensures { IsOneFit }
 {}
 
-/// A law: a rank's bytes spell one list of live blocks at most.
+/// A law: what definitions compute as the first fit is it.
+pub fn computed_fit_is_first()
+    ensures { AreFirstFits }
+{}
+
+/// Laws: a rank's bytes spell one list of live blocks at most, which is read along the links of the nodes, and no byte but
+/// the header's page and the descriptors tells which blocks are read.
 pub fn spelled_heap_is_one()
-    ensures { IsOneHeap }
+    ensures one { IsOneHeap }
+    ensures read { AreSpelled }
+    ensures stay { BlocksStay }
 {}

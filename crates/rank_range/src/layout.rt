@@ -1,7 +1,8 @@
 //! Where a rank's memory stands. This profile's own.
-ghost use Rattle.std.specs.Prelude.{◌≡◌, ◌↔◌, ◌+◌, ◌-◌, ◌≤◌, IsTrue, IfOk, OnOk, OnErr};
+ghost use Rattle.std.specs.Prelude.{◌≡◌, ◌↔◌, ◌+◌, ◌-◌, ◌<◌, ◌≤◌, IsTrue, IfOk, OnOk, OnErr};
 ghost use Rattle.rank_range.specs.Layout.{base_of, AllIn, Accessible, range_bytes};
 ghost use Rattle.rank_range.specs.Numbers.{bytes_in};
+ghost use Rattle.rank_range.specs.Areas.{TellsAccessible, AreRead, ArePut};
 
 use crate::{BadAddress, Width};
 use am_base::RankId;
@@ -55,6 +56,21 @@ fn lies_in(start: u64, end: u64, a: u64, n: u64) -> bool
     n == 0 || (start <= a && a <= end && n <= end - a)
 }
 
+/// The offset of the `n` bytes from the address `a` on, refused just where they are not all in one accessible area.
+pub fn place_of_bytes(rank: RankId, top: u32, a: u64, n: u64) -> Result<usize, BadAddress>
+    requires below { top ≤ range_bytes }
+    requires some { 0 < n }
+    ensures value { IfOk result (λ at. at ≡ a - base_of rank.0) }
+    ensures inside { IfOk result (λ at. at + n ≤ range_bytes) }
+    ensures ok { OnOk result (Accessible rank.0 top a n) }
+    ensures refused { OnErr result (Accessible rank.0 top a n → ⊥) }
+{
+    if !is_accessible(rank, top, a, n) {
+        return Err(BadAddress);
+    }
+    Ok((a - base(rank)) as usize)
+}
+
 /// The offset of the address `a`, refused just where the bytes from there on are not all in one accessible area.
 pub fn place_of(rank: RankId, top: u32, a: u64, width: Width) -> Result<usize, BadAddress>
     requires { top ≤ range_bytes }
@@ -68,3 +84,11 @@ pub fn place_of(rank: RankId, top: u32, a: u64, width: Width) -> Result<usize, B
     }
     Ok((a - base(rank)) as usize)
 }
+
+/// Laws: the test of accessible bytes that definitions compute with tells just these, and what is read and put by areas is
+/// what stands in the rank's bytes and is put into them.
+pub fn areas_are_in_the_range()
+    ensures tells { TellsAccessible }
+    ensures read { AreRead }
+    ensures put { ArePut }
+{}

@@ -1,6 +1,9 @@
-ghost use Rattle.std.specs.Prelude.{◌≡◌, ◌↔◌, ◌+◌, ◌-◌, ◌<◌, ◌≤◌, ◌^◌, ℕ, Bool, List, IsTrue, IfOk, OnOk, OnErr};
+//! What the memory of a rank is.
+
+ghost use Rattle.std.specs.Prelude.{◌≡◌, ◌↔◌, ◌+◌, ◌-◌, ◌<◌, ◌≤◌, ◌^◌, ℕ, Bool, List, length, replicate, IsTrue, IfOk, OnOk, OnErr};
 ghost use Rattle.rank_range.specs.Layout.{Accessible, base_of, range_bytes, stack_start, IsRange, IsZeroed, IsMarked, MarksChanges};
 ghost use Rattle.rank_range.specs.Numbers.{bytes_in, number_at, with_number};
+ghost use Rattle.rank_range.specs.Parts.{part, with_part};
 
 use crate::Width;
 use am_base::RankId;
@@ -70,6 +73,48 @@ pub trait Mem {
         ensures ok { OnOk result (Accessible (rank_of self.old) (top_of self.old) a (bytes_in width)) }
         ensures marks { OnOk result (MarksChanges (bytes_of self.old) (bytes_of self.new) (marks_of self.old) (marks_of self.new)) }
         ensures refused { OnErr result (Accessible (rank_of self.old) (top_of self.old) a (bytes_in width) → ⊥) }
+        ensures same_bytes { OnErr result (bytes_of self.new ≡ bytes_of self.old) }
+        ensures same_marks { OnErr result (marks_of self.new ≡ marks_of self.old) }
+        ensures owner { rank_of self.new ≡ rank_of self.old }
+        ensures stack { top_of self.new ≡ top_of self.old };
+
+    /// The `n` bytes from the address `a` on, refused just where they are not all in one accessible area.
+    fn view(&self, a: u64, n: u64) -> Result<&[u8], BadAddress>
+        ensures value { IfOk result (λ bytes. bytes.now ≡ part (bytes_of self.now) (a - base_of (rank_of self.now)) n) }
+        ensures ok { OnOk result (Accessible (rank_of self.now) (top_of self.now) a n) }
+        ensures refused { OnErr result (Accessible (rank_of self.now) (top_of self.now) a n → ⊥) };
+
+    /// Puts the bytes at the address `a`, refused just where they wouldn't all be in one accessible area. A refused call
+    /// changes nothing; so it is with `copy` and `fill`.
+    fn write(&mut self, a: u64, bytes: &[u8]) -> Result<(), BadAddress>
+        ensures bytes { OnOk result (bytes_of self.new ≡ with_part (bytes_of self.old) (a - base_of (rank_of self.old)) bytes.now) }
+        ensures ok { OnOk result (Accessible (rank_of self.old) (top_of self.old) a (length bytes.now)) }
+        ensures marks { OnOk result (MarksChanges (bytes_of self.old) (bytes_of self.new) (marks_of self.old) (marks_of self.new)) }
+        ensures refused { OnErr result (Accessible (rank_of self.old) (top_of self.old) a (length bytes.now) → ⊥) }
+        ensures same_bytes { OnErr result (bytes_of self.new ≡ bytes_of self.old) }
+        ensures same_marks { OnErr result (marks_of self.new ≡ marks_of self.old) }
+        ensures owner { rank_of self.new ≡ rank_of self.old }
+        ensures stack { top_of self.new ≡ top_of self.old };
+
+    /// Puts the `n` bytes from the address `from` on to the address `to`, as if by a buffer. It is refused just where the ones
+    /// or the others are not all in one accessible area.
+    fn copy(&mut self, to: u64, from: u64, n: u64) -> Result<(), BadAddress>
+        ensures bytes { OnOk result (bytes_of self.new ≡ with_part (bytes_of self.old) (to - base_of (rank_of self.old)) (part (bytes_of self.old) (from - base_of (rank_of self.old)) n)) }
+        ensures there { OnOk result (Accessible (rank_of self.old) (top_of self.old) from n) }
+        ensures room { OnOk result (Accessible (rank_of self.old) (top_of self.old) to n) }
+        ensures marks { OnOk result (MarksChanges (bytes_of self.old) (bytes_of self.new) (marks_of self.old) (marks_of self.new)) }
+        ensures refused { OnErr result (Accessible (rank_of self.old) (top_of self.old) from n → Accessible (rank_of self.old) (top_of self.old) to n → ⊥) }
+        ensures same_bytes { OnErr result (bytes_of self.new ≡ bytes_of self.old) }
+        ensures same_marks { OnErr result (marks_of self.new ≡ marks_of self.old) }
+        ensures owner { rank_of self.new ≡ rank_of self.old }
+        ensures stack { top_of self.new ≡ top_of self.old };
+
+    /// Puts the byte into the `n` places from the address `a` on, refused just where they are not all in one accessible area.
+    fn fill(&mut self, a: u64, n: u64, byte: u8) -> Result<(), BadAddress>
+        ensures bytes { OnOk result (bytes_of self.new ≡ with_part (bytes_of self.old) (a - base_of (rank_of self.old)) (replicate n byte)) }
+        ensures ok { OnOk result (Accessible (rank_of self.old) (top_of self.old) a n) }
+        ensures marks { OnOk result (MarksChanges (bytes_of self.old) (bytes_of self.new) (marks_of self.old) (marks_of self.new)) }
+        ensures refused { OnErr result (Accessible (rank_of self.old) (top_of self.old) a n → ⊥) }
         ensures same_bytes { OnErr result (bytes_of self.new ≡ bytes_of self.old) }
         ensures same_marks { OnErr result (marks_of self.new ≡ marks_of self.old) }
         ensures owner { rank_of self.new ≡ rank_of self.old }

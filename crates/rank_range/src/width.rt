@@ -1,3 +1,5 @@
+//! How many bytes a load or a store takes.
+
 ghost use Rattle.std.specs.Prelude.{◌≡◌};
 ghost use Rattle.rank_range.specs.Numbers.{bytes_in};
 

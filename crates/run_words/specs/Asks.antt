@@ -13,7 +13,7 @@ abbrev pub AreAccepted : List (List ℕ) → Type 0
 AreAccepted words = (asked : Asked) × AskForRun words asked
 
 -- The words ask for a run with the command's file, ranks and ticks.
-pub record IsAccepted (words : List (List ℕ)) (command : Command) : Type 0 where
+pub record IsAskedBy (words : List (List ℕ)) (command : Command) : Type 0 where
   pub asked : Asked
   pub asks : AskForRun words asked
   pub file : string_bytes command.file ≡ asked.file

@@ -1,6 +1,7 @@
+//! What accepted words ask for.
 ghost use Rattle.std.specs.Prelude.{◌≡◌, ◌≤◌, None, Some, IfOk, IfSome, IfNone, IsErrOf};
 ghost use Rattle.run_words.specs.Words.{AskForRun};
-ghost use Rattle.run_words.specs.Asks.{AreAccepted, bytes_of_words, IsAccepted, IsJournalOf};
+ghost use Rattle.run_words.specs.Asks.{AreAccepted, bytes_of_words, IsAskedBy, IsJournalOf};
 
 use crate::reading::run_of;
 use std::alloc::{AllocError, Global};
@@ -37,7 +38,7 @@ impl From<AllocError> for WordsError {
 
 /// Reads the words of a command line, without the program's name. Only the file's name takes memory.
 pub fn read_words(alloc: Global, words: &Vec<String>) -> Result<Command, WordsError>
-    ensures accepted { IfOk result (IsAccepted (bytes_of_words words.now)) }
+    ensures accepted { IfOk result (IsAskedBy (bytes_of_words words.now)) }
     ensures bad { IsErrOf result WordsError.Bad → (asked : _) → AskForRun (bytes_of_words words.now) asked → ⊥ }
     ensures memory { IsErrOf result WordsError.Memory → AreAccepted (bytes_of_words words.now) }
 {

@@ -1,3 +1,4 @@
+//! Words read from the first on.
 ghost use Rattle.std.specs.Prelude.{◌≡◌, ◌≤◌, ◌∷◌, length, map, string_bytes, None, IfSome, MatchOption};
 ghost use Rattle.std.specs.Option.{option_map};
 ghost use Rattle.run_words.specs.steps.Reading.{Said, nothing_said, is_number as is_number_lem, is_plain as is_plain_lem, ranks_said, ticks_said, with_file as with_file_lem, with_ranks as with_ranks_lem, with_ticks as with_ticks_lem, with_journal as with_journal_lem, said_with, asked_of};

@@ -1,6 +1,6 @@
 -- A text is a source of one program at most, and of none where its tokens are no program.
 use Rattle.std.proofs.Common.{◌≡◌, ℕ, List, subst}
-use Rattle.c_model.specs.declared.tree.Program.{Program}
+use Rattle.thin_model.specs.declared.tree.Program.{Program}
 use Rattle.thin_tokens.specs.declared.token.Token.{Token}
 use Rattle.thin_tokens.specs.Tokens.{AreTokens}
 use Rattle.thin_tokens.proofs.TokenLaws.{one_list}

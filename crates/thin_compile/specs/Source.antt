@@ -1,12 +1,12 @@
 -- Which texts are sources of which programs, and what is made of one.
 use Rattle.std.specs.Prelude.{ℕ, List}
-use Rattle.c_model.specs.declared.tree.Program.{Program}
-use Rattle.c_model.specs.Need.{IsSimple, IsTooComplex}
+use Rattle.thin_model.specs.declared.tree.Program.{Program}
+use Rattle.thin_model.specs.Need.{IsSimple, IsTooComplex}
 use Rattle.thin_tokens.specs.declared.token.Token.{Token}
 use Rattle.thin_tokens.specs.Tokens.{AreTokens}
 use Rattle.thin_form.specs.Grammar.{Parses}
-use Rattle.vm_code.specs.declared.compiled.Compiled.{Compiled}
-use Rattle.vm_code.specs.Means.{Means}
+use Rattle.thin_code.specs.declared.compiled.Compiled.{Compiled}
+use Rattle.thin_code.specs.Means.{Means}
 
 -- The text is a source of the program: it is tokens that are the program.
 pub record IsSource (text : List ℕ) (program : Program) : Type 0 where

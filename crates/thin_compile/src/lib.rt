@@ -6,12 +6,12 @@ ghost use Rattle.thin_compile.specs.Source.{IsCompiled, IsNotBuilt, IsTooComplex
 
 mod error;
 
-use codegen::{GenError, generate};
 pub use error::CompileError;
 use std::alloc::Global;
+use thin_code::Compiled;
+use thin_codegen::{GenError, generate};
 use thin_form::{ParseError, parse};
 use thin_tokens::{TokenError, read_tokens};
-use vm_code::Compiled;
 
 /// Compiles a text of fewer than 2 ^ 31 bytes.
 pub fn compile(alloc: Global, text: &[u8]) -> Result<Compiled, CompileError>

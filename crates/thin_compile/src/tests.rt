@@ -1,9 +1,9 @@
 use super::*;
-use c_model::BinaryOp;
 use std::alloc::AllocError;
 use std::process::Abort;
 use std::test::Fail;
-use vm_code::Instr;
+use thin_code::Instr;
+use thin_model::BinaryOp;
 
 /// The refusal of a text; nothing where it is compiled.
 fn answer(rt: &impl Abort, alloc: Global, text: &str) -> Result<Option<CompileError>, AllocError> {

@@ -1,6 +1,6 @@
 -- The steps of reading declarators.
 use Rattle.std.proofs.Common.{◌≡◌, ℕ, zero, suc, ◌-◌, ◌<◌, Option, Some, None, List, refl, sym, ap, ◌∙◌, arith, length, ◌≤◌}
-use Rattle.c_model.specs.declared.tree.Stmt.{Stmt}
+use Rattle.thin_model.specs.declared.tree.Stmt.{Stmt}
 use Rattle.thin_tokens.specs.declared.token.Token.{Token}
 use Rattle.thin_tokens.specs.declared.token.Mark.TheVariants.{Comma, Semicolon}
 use Rattle.thin_form.specs.declared.scope.Scope.{Scope}

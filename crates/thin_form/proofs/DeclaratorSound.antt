@@ -1,9 +1,9 @@
 -- What is read as declarators, or as a full expression, is such a part.
 use Rattle.std.proofs.Common.{◌≡◌, ℕ, zero, suc, false, nat_eq, Option, Some, None, List, [], ◌∷◌, ◌++◌, refl, sym, ap, ◌∙◌, subst, inl, inr, append_assoc, append-nil}
-use Rattle.c_model.specs.declared.tree.Expr.{Expr}
-use Rattle.c_model.specs.declared.tree.FullExpr.{FullExpr}
-use Rattle.c_model.specs.declared.tree.Stmt.{Stmt}
-use Rattle.c_model.specs.declared.tree.Stmt.TheVariants as stmt
+use Rattle.thin_model.specs.declared.tree.Expr.{Expr}
+use Rattle.thin_model.specs.declared.tree.FullExpr.{FullExpr}
+use Rattle.thin_model.specs.declared.tree.Stmt.{Stmt}
+use Rattle.thin_model.specs.declared.tree.Stmt.TheVariants as stmt
 use Rattle.thin_tokens.specs.declared.token.Token.{Token}
 use Rattle.thin_tokens.specs.declared.token.Kind.TheVariants as kind
 use Rattle.thin_tokens.specs.declared.token.Mark.TheVariants as mark

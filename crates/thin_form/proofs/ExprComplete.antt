@@ -1,9 +1,9 @@
 -- An expression is read, whatever comes behind it that doesn't go on with it.
 use Rattle.std.proofs.Common.{◌≡◌, ◌≢◌, ℕ, ℤ, zero, suc, ◌+◌, ◌-◌, ◌<◌, ◌≤◌, true, false, cond, nat_eq, Option, Some, None, List, ◌∷◌, refl, ap, ◌∙◌, arith}
 use Rattle.std.proofs.lemmas.Bool.Decides.{Decides-eqb}
-use Rattle.c_model.specs.declared.tree.Expr.{Expr}
-use Rattle.c_model.specs.declared.tree.Expr.TheVariants as expr
-use Rattle.c_model.specs.declared.tree.UnaryOp.{UnaryOp}
+use Rattle.thin_model.specs.declared.tree.Expr.{Expr}
+use Rattle.thin_model.specs.declared.tree.Expr.TheVariants as expr
+use Rattle.thin_model.specs.declared.tree.UnaryOp.{UnaryOp}
 use Rattle.thin_tokens.specs.declared.token.Token.{Token}
 use Rattle.thin_tokens.specs.declared.token.Mark.{Mark}
 use Rattle.thin_tokens.specs.declared.token.Mark.TheVariants as mark

@@ -1,8 +1,8 @@
 -- What is read as an expression is one.
 use Rattle.std.proofs.Common.{◌≡◌, ℕ, zero, suc, ◌+◌, ◌≤◌, cond, nat_eq, Some, None, List, [], ◌∷◌, refl, sym, ap, ◌∙◌, subst, inl, inr, arith}
 use Rattle.std.proofs.lemmas.Bool.Decides.{Decides-eqb}
-use Rattle.c_model.specs.declared.tree.Expr.{Expr}
-use Rattle.c_model.specs.declared.tree.Expr.TheVariants as expr
+use Rattle.thin_model.specs.declared.tree.Expr.{Expr}
+use Rattle.thin_model.specs.declared.tree.Expr.TheVariants as expr
 use Rattle.thin_tokens.specs.declared.token.Token.{Token}
 use Rattle.thin_tokens.specs.declared.token.Kind.{Kind}
 use Rattle.thin_tokens.specs.declared.token.Kind.TheVariants as kind

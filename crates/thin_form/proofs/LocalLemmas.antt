@@ -1,10 +1,10 @@
 -- What local an expression is.
 use Rattle.std.proofs.Common.{◌≡◌, ℕ, Option, Some, None, refl, sym, ap, ◌∙◌, rules}
-use Rattle.c_model.specs.declared.tree.Expr.{Expr}
-use Rattle.c_model.specs.declared.tree.Expr.TheOpen.{Expr-F}
-use Rattle.c_model.specs.declared.tree.Expr.TheFolds.{fold-Expr, fold-roll-Expr}
-use Rattle.c_model.specs.declared.tree.Expr.TheViews.{out-Expr, roll-Expr, the_lemmas}
-use Rattle.c_model.specs.declared.tree.Expr.TheVariants as expr
+use Rattle.thin_model.specs.declared.tree.Expr.{Expr}
+use Rattle.thin_model.specs.declared.tree.Expr.TheOpen.{Expr-F}
+use Rattle.thin_model.specs.declared.tree.Expr.TheFolds.{fold-Expr, fold-roll-Expr}
+use Rattle.thin_model.specs.declared.tree.Expr.TheViews.{out-Expr, roll-Expr, the_lemmas}
+use Rattle.thin_model.specs.declared.tree.Expr.TheVariants as expr
 use Rattle.thin_form.specs.Reading.{local_of, local_step}
 
 roll_out : (e : Expr) → roll-Expr (out-Expr e) ≡ e

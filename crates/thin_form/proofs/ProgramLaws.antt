@@ -1,8 +1,8 @@
 -- Tokens are read as a program exactly where they are one.
 use Rattle.std.proofs.Common.{◌≡◌, ℕ, cond, Option, Some, None, Result, Ok, Err, List, [], ◌∷◌, length, refl, sym, ap, ◌∙◌, subst, inl, inr, arith}
 use Rattle.std.specs.Prelude.{codes, IfOk, IsErrOf}
-use Rattle.c_model.specs.declared.tree.Stmt.{Stmt}
-use Rattle.c_model.specs.declared.tree.Program.{Program}
+use Rattle.thin_model.specs.declared.tree.Stmt.{Stmt}
+use Rattle.thin_model.specs.declared.tree.Program.{Program}
 use Rattle.thin_tokens.specs.declared.token.Token.{Token}
 use Rattle.thin_tokens.specs.declared.token.Kind.TheVariants as kind
 use Rattle.thin_tokens.specs.declared.token.Keyword.TheVariants as keyword

@@ -1,6 +1,6 @@
 -- What stays in scope.
 use Rattle.std.proofs.Common.{◌≡◌, ℕ, Bool, List, [], ◌∷◌, ◌++◌, refl, sym, ap, ◌∙◌, append_assoc, append-nil}
-use Rattle.c_model.specs.declared.tree.Stmt.{Stmt}
+use Rattle.thin_model.specs.declared.tree.Stmt.{Stmt}
 use Rattle.thin_tokens.specs.declared.token.Token.{Token}
 use Rattle.thin_form.specs.declared.scope.Declared.{Declared}
 use Rattle.thin_form.specs.declared.scope.Scope.{Scope}

@@ -2,7 +2,7 @@
 use Rattle.std.proofs.Common.{◌≡◌, ℕ, zero, suc, ◌<◌, Option, Some, None, List, sym, ap, ◌∙◌, arith, subst, Result, ◌-◌}
 use Rattle.std.specs.Result.{IsErrAnd}
 use Rattle.std.proofs.lemmas.Result.{err_from_is_err_and}
-use Rattle.c_model.specs.declared.tree.Expr.{Expr}
+use Rattle.thin_model.specs.declared.tree.Expr.{Expr}
 use Rattle.thin_tokens.specs.declared.token.Token.{Token}
 use Rattle.thin_form.specs.declared.error.ParseError.{ParseError}
 use Rattle.thin_form.specs.declared.error.ParseError.TheVariants.{NotBuilt, Memory}

@@ -1,8 +1,8 @@
 -- A declarator, a statement and what stands in a block are read, whatever comes behind that doesn't go on with them.
 use Rattle.std.proofs.Common.{◌≡◌, ℕ, zero, suc, ◌-◌, ◌<◌, ◌≤◌, Bool, true, false, cond, nat_eq, Option, Some, None, List, [], ◌∷◌, ◌++◌, length, refl, sym, ap, ◌∙◌, subst, append_assoc, append-nil, arith}
-use Rattle.c_model.specs.declared.tree.Expr.{Expr}
-use Rattle.c_model.specs.declared.tree.Stmt.{Stmt}
-use Rattle.c_model.specs.declared.tree.Stmt.TheVariants as stmt
+use Rattle.thin_model.specs.declared.tree.Expr.{Expr}
+use Rattle.thin_model.specs.declared.tree.Stmt.{Stmt}
+use Rattle.thin_model.specs.declared.tree.Stmt.TheVariants as stmt
 use Rattle.thin_tokens.specs.declared.token.Token.{Token}
 use Rattle.thin_tokens.specs.declared.token.Kind.TheVariants as kind
 use Rattle.thin_tokens.specs.declared.token.Keyword.TheVariants as keyword

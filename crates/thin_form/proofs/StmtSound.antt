@@ -1,7 +1,7 @@
 -- What is read as a statement, or as what stands in a block, is such a part.
 use Rattle.std.proofs.Common.{◌≡◌, ℕ, zero, suc, ◌-◌, Bool, true, false, nat_eq, Option, Some, None, List, ◌∷◌, refl, sym, ap, ◌∙◌, subst, inl, inr, arith}
-use Rattle.c_model.specs.declared.tree.Stmt.{Stmt}
-use Rattle.c_model.specs.declared.tree.Stmt.TheVariants as stmt
+use Rattle.thin_model.specs.declared.tree.Stmt.{Stmt}
+use Rattle.thin_model.specs.declared.tree.Stmt.TheVariants as stmt
 use Rattle.thin_tokens.specs.declared.token.Token.{Token}
 use Rattle.thin_tokens.specs.declared.token.Kind.TheVariants as kind
 use Rattle.thin_tokens.specs.declared.token.Keyword.TheVariants as keyword

@@ -6,12 +6,12 @@
 -- with one for each statement around it that is no block, each prefix operator and each assignment operator on whose
 -- right it stands.
 use Rattle.std.specs.Prelude.{ℕ, suc, ◌≡◌, ◌≢◌, ◌≤◌, ℤ, Bool, true, false, Some, List, [], ◌∷◌, ◌++◌, codes}
-use Rattle.c_model.specs.declared.tree.Expr.{Expr}
-use Rattle.c_model.specs.declared.tree.Expr.TheVariants as expr
-use Rattle.c_model.specs.declared.tree.UnaryOp.{UnaryOp}
-use Rattle.c_model.specs.declared.tree.Stmt.{Stmt}
-use Rattle.c_model.specs.declared.tree.Stmt.TheVariants as stmt
-use Rattle.c_model.specs.declared.tree.Program.{Program}
+use Rattle.thin_model.specs.declared.tree.Expr.{Expr}
+use Rattle.thin_model.specs.declared.tree.Expr.TheVariants as expr
+use Rattle.thin_model.specs.declared.tree.UnaryOp.{UnaryOp}
+use Rattle.thin_model.specs.declared.tree.Stmt.{Stmt}
+use Rattle.thin_model.specs.declared.tree.Stmt.TheVariants as stmt
+use Rattle.thin_model.specs.declared.tree.Program.{Program}
 use Rattle.thin_tokens.specs.declared.token.Token.{Token}
 use Rattle.thin_tokens.specs.declared.token.Kind.TheVariants as kind
 use Rattle.thin_tokens.specs.declared.token.Keyword.TheVariants as keyword

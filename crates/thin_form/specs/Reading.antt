@@ -2,13 +2,13 @@
 -- tokens behind it, or nothing.
 use Rattle.std.specs.Prelude.{ℕ, ◌≡◌, zero, suc, ◌-◌, nat_eq, nat_lt, if◌then◌else◌, Bool, false, Option, Some, None, option_and_then, Result, Ok, Err, List, [], ◌∷◌, ◌++◌, length, drop, codes}
 use Rattle.std.specs.Cmp.Lexicographic.{pointwise}
-use Rattle.c_model.specs.declared.tree.Expr.{Expr, fold-Expr}
-use Rattle.c_model.specs.declared.tree.Expr.TheOpen.{Expr-F}
-use Rattle.c_model.specs.declared.tree.Expr.TheVariants as expr
-use Rattle.c_model.specs.declared.tree.FullExpr.{FullExpr}
-use Rattle.c_model.specs.declared.tree.Stmt.{Stmt}
-use Rattle.c_model.specs.declared.tree.Stmt.TheVariants as stmt
-use Rattle.c_model.specs.declared.tree.Program.{Program}
+use Rattle.thin_model.specs.declared.tree.Expr.{Expr, fold-Expr}
+use Rattle.thin_model.specs.declared.tree.Expr.TheOpen.{Expr-F}
+use Rattle.thin_model.specs.declared.tree.Expr.TheVariants as expr
+use Rattle.thin_model.specs.declared.tree.FullExpr.{FullExpr}
+use Rattle.thin_model.specs.declared.tree.Stmt.{Stmt}
+use Rattle.thin_model.specs.declared.tree.Stmt.TheVariants as stmt
+use Rattle.thin_model.specs.declared.tree.Program.{Program}
 use Rattle.thin_tokens.specs.declared.token.Token.{Token}
 use Rattle.thin_tokens.specs.declared.token.Kind.{Kind}
 use Rattle.thin_tokens.specs.declared.token.Kind.TheVariants as kind

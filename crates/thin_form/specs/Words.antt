@@ -1,12 +1,12 @@
 -- Words of the grammar: the operators, the names in scope, and the frame that the locals take.
 use Rattle.std.specs.Prelude.{ℕ, ◌≡◌, ◌≢◌, ◌+◌, ◌*◌, ◌/◌, ◌≤◌, Option, Some, None, List, [], ◌∷◌, ◌++◌, length, drop, codes}
 use Rattle.std.specs.List.{AllByRecursion}
-use Rattle.c_model.specs.declared.tree.Expr.{Expr}
-use Rattle.c_model.specs.declared.tree.Expr.TheVariants as expr
-use Rattle.c_model.specs.declared.tree.UnaryOp.{UnaryOp}
-use Rattle.c_model.specs.declared.tree.UnaryOp.TheVariants as unary
-use Rattle.c_model.specs.declared.tree.BinaryOp.TheVariants as binary
-use Rattle.c_model.specs.declared.tree.FullExpr.{FullExpr}
+use Rattle.thin_model.specs.declared.tree.Expr.{Expr}
+use Rattle.thin_model.specs.declared.tree.Expr.TheVariants as expr
+use Rattle.thin_model.specs.declared.tree.UnaryOp.{UnaryOp}
+use Rattle.thin_model.specs.declared.tree.UnaryOp.TheVariants as unary
+use Rattle.thin_model.specs.declared.tree.BinaryOp.TheVariants as binary
+use Rattle.thin_model.specs.declared.tree.FullExpr.{FullExpr}
 use Rattle.thin_tokens.specs.declared.token.Token.{Token}
 use Rattle.thin_tokens.specs.declared.token.Kind.{Kind}
 use Rattle.thin_tokens.specs.declared.token.Kind.TheVariants as kind

@@ -6,9 +6,9 @@ use crate::ParseError;
 use crate::cursor::Cursor;
 use crate::operators::{join, prefix_of};
 use crate::scope::{Scope, local_named};
-use c_model::{Expr, FullExpr};
 use sqlite_items::Boxed;
 use std::alloc::Global;
+use thin_model::{Expr, FullExpr};
 use thin_tokens::{Kind, Mark};
 
 /// The level of `||`, the last of those of operators on two operands.

@@ -2,7 +2,7 @@
 #![tactic(auto)]
 
 ghost use Rattle.std.specs.Prelude.{◌≡◌, List, IfOk, IsErrOf};
-ghost use Rattle.c_model.specs.declared.tree.Program.{Program};
+ghost use Rattle.thin_model.specs.declared.tree.Program.{Program};
 ghost use Rattle.thin_tokens.specs.declared.token.Token.{Token};
 ghost use Rattle.thin_form.specs.Grammar.{Parses};
 
@@ -15,9 +15,9 @@ mod program;
 mod scope;
 mod statements;
 
-use c_model::Program;
 pub use error::ParseError;
 use std::alloc::Global;
+use thin_model::Program;
 use thin_tokens::Token;
 
 /// Parses the tokens of a program (C11, 6.5, 6.7 and 6.8, cut to this form).

@@ -1,9 +1,9 @@
 ghost use Rattle.std.specs.Prelude.{◌≡◌, IfOk};
 ghost use Rattle.thin_form.specs.Words.{operator_of, prefix_of, join};
 
-use c_model::{BinaryOp, Expr, UnaryOp};
 use sqlite_items::Boxed;
 use std::alloc::{AllocError, Global};
+use thin_model::{BinaryOp, Expr, UnaryOp};
 use thin_tokens::Mark;
 
 /// An operator on two operands.

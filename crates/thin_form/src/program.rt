@@ -5,9 +5,9 @@ use crate::ParseError;
 use crate::cursor::{Cursor, same_name};
 use crate::scope::Scope;
 use crate::statements::block;
-use c_model::Program;
 use sqlite_items::Items;
 use std::alloc::Global;
+use thin_model::Program;
 use thin_tokens::{Keyword, Mark, Token};
 
 /// How many nestings the tokens of the block of `main` may have in all: no token has a nesting over 64.

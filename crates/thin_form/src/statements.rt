@@ -7,9 +7,9 @@ use crate::declarations::declarators;
 use crate::expressions::{ended, test};
 use crate::scope::{Scope, keep_first};
 use am_base::Bytes;
-use c_model::Stmt;
 use sqlite_items::{Boxed, Items};
 use std::alloc::Global;
+use thin_model::Stmt;
 use thin_tokens::{Keyword, Mark};
 
 /// Reads the string of a `printf`, with its brackets and the semicolon.

@@ -8,15 +8,15 @@ use Rattle.std.proofs.lemmas.List.Sums.{sum_by-set}
 use Rattle.std.specs.Prelude.{replicate}
 use Rattle.std.specs.List.{sum_by, range_with_len}
 use lib.Dec.{eqb}
-use Rattle.c_model.specs.declared.tree.Program.{Program}
-use Rattle.c_model.specs.declared.tree.Ending.TheVariants.{Paused}
-use Rattle.c_model.specs.Run.{Answer, run_of}
+use Rattle.thin_model.specs.declared.tree.Program.{Program}
+use Rattle.thin_model.specs.declared.tree.Ending.TheVariants.{Paused}
+use Rattle.thin_model.specs.Run.{Answer, run_of}
 use Rattle.mpi_types.specs.declared.entries.Entry.{Entry}
 use Rattle.w_model.specs.World.{Setting, World, RankPart, MayTick, after, after_all, world_of, start_world, changed_at, ticked, IsLegalFrom}
 use Rattle.w_model.specs.Cut.{rank_numbers}
 use Rattle.w_model.specs.Drain.{tick_of, IsRunOf, IsRound, IsDrain, last, more, ticks_in_round}
 use Rattle.w_model.proofs.DrainLemmas.{after_all-append}
-use Rattle.vm_code.specs.declared.code.Code.{Code}
+use Rattle.thin_code.specs.declared.code.Code.{Code}
 use Rattle.thin_run.specs.declared.rank.Rank.{Rank}
 use Rattle.thin_run.specs.Rank.{Ticked, Ran}
 use Rattle.thin_run.specs.Group.{setting, IsPart, ticks_left, Stand, AddsRun, AddsRound, AddsDrain}

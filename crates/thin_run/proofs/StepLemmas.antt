@@ -1,16 +1,16 @@
 -- A rank's run, by that of its machine.
 use Rattle.std.proofs.Common.{ℕ, ◌≡◌, ◌+◌, ◌-◌, ◌≤◌, min, [], refl, sym, ap, ◌∙◌, subst, arith, true}
-use Rattle.c_model.specs.declared.tree.Program.{Program}
-use Rattle.c_model.specs.declared.tree.Ending.{Ending}
-use Rattle.c_model.specs.declared.tree.Ending.TheVariants.{Paused, Ended, Trapped}
+use Rattle.thin_model.specs.declared.tree.Program.{Program}
+use Rattle.thin_model.specs.declared.tree.Ending.{Ending}
+use Rattle.thin_model.specs.declared.tree.Ending.TheVariants.{Paused, Ended, Trapped}
 use Rattle.w_model.specs.Texts.{is_unended}
-use Rattle.c_model.specs.Run.{Outcome, run_of}
-use Rattle.vm_code.specs.declared.code.Code.{Code}
-use Rattle.vm_code.specs.Machine.{Config, Moved, Stopped, exec, start, outcome_of}
-use Rattle.vm_code.specs.Means.{Stops, Means, Goes, given}
-use Rattle.rank_machine.specs.Runs.{config_of}
-use Rattle.rank_machine.specs.Runs as machine
-use Rattle.rank_machine.proofs.GoLemmas.{stays}
+use Rattle.thin_model.specs.Run.{Outcome, run_of}
+use Rattle.thin_code.specs.declared.code.Code.{Code}
+use Rattle.thin_code.specs.Machine.{Config, Moved, Stopped, exec, start, outcome_of}
+use Rattle.thin_code.specs.Means.{Stops, Means, Goes, given}
+use Rattle.thin_machine.specs.Runs.{config_of}
+use Rattle.thin_machine.specs.Runs as machine
+use Rattle.thin_machine.proofs.GoLemmas.{stays}
 use Rattle.thin_run.specs.declared.rank.Rank.{Rank}
 use Rattle.thin_run.specs.Rank.{StandsFor, Ran}
 

@@ -5,7 +5,7 @@ use Rattle.std.proofs.lemmas.List.Sums.{sum_by-cons}
 use Rattle.std.proofs.lemmas.Grind.{flat_map-append}
 use Rattle.std.proofs.lemmas.Iterator.Adapters.{position_from-zero}
 use Rattle.std.specs.List.{sum_by, AllByRecursion}
-use Rattle.c_model.specs.declared.tree.Program.{Program}
+use Rattle.thin_model.specs.declared.tree.Program.{Program}
 use Rattle.mpi_types.specs.declared.entries.Entry.{Entry}
 use Rattle.w_model.specs.World.{Setting, World, world_of, start_world}
 use Rattle.thin_run.specs.declared.rank.Rank.{Rank}
@@ -13,17 +13,17 @@ use Rattle.thin_run.specs.Group.{setting, IsPart, ticks_left, Stand}
 use Rattle.std.proofs.Common.{drop, ◌||◌}
 use Rattle.std.specs.Bool.{if◌then◌else◌}
 use Rattle.std.specs.List.{flat_map, range_with_len, list_any, position, position_from}
-use Rattle.c_model.specs.Run.{run_of}
-use Rattle.c_model.specs.Lines.{lines_of, lines_behind, part_behind, whole_lines, unfinished, last_line}
+use Rattle.thin_model.specs.Run.{run_of}
+use Rattle.thin_model.specs.Lines.{lines_of, lines_behind, part_behind, whole_lines, unfinished, last_line}
 use Rattle.w_model.specs.declared.report.End.{End}
 use Rattle.w_model.specs.declared.report.End.TheVariants.{Done, Deadlock, OutOfTicks}
 use Rattle.w_model.specs.World.{outcome_at}
 use Rattle.am_base.specs.Released.{released_line}
 use Rattle.w_model.specs.Cut.{lines_at, lines_since, rank_numbers}
 use Rattle.w_model.specs.Texts.{rank_line, rank_line_at, is_at_bound, is_unended, is_trapped, first_trapped, end_of, end_untrapped, end_at}
-use Rattle.vm_code.specs.declared.code.Code.{Code}
-use Rattle.vm_code.specs.Machine.{outcome_of}
-use Rattle.rank_machine.specs.Runs.{config_of}
+use Rattle.thin_code.specs.declared.code.Code.{Code}
+use Rattle.thin_code.specs.Machine.{outcome_of}
+use Rattle.thin_machine.specs.Runs.{config_of}
 use Rattle.thin_run.specs.Told.{IsNew, on_first, is_rank_at_bound, is_rank_unended, is_rank_trapped}
 
 pub all-append : {X : Type 0} (P : X → Type 0) (xs : List X) (x : X) → AllByRecursion P xs → P x → AllByRecursion P (xs ++ x ∷ [])

@@ -2,7 +2,7 @@
 use Rattle.std.proofs.Common.{ℕ, ◌≡◌, List, [], ◌∷◌, ◌++◌, length, refl, sym, ap, ◌∙◌, subst, Result, Ok, Err, IfOk}
 use Rattle.std.specs.Prelude.{replicate}
 use Rattle.std.specs.List.{flat_map}
-use Rattle.c_model.specs.declared.tree.Program.{Program}
+use Rattle.thin_model.specs.declared.tree.Program.{Program}
 use Rattle.mpi_types.specs.declared.entries.Entry.{Entry}
 use Rattle.mpi_types.specs.declared.entries.Entry.TheVariants.{Commit}
 use Rattle.w_model.specs.World.{Setting, world_of, start_world}
@@ -12,7 +12,7 @@ use Rattle.mpi_types.specs.Journal.{run_lines}
 use Rattle.mpi_types.specs.Runs.{runs_of}
 use Rattle.w_model.specs.Drain.{IsDrain}
 use Rattle.w_model.proofs.DrainLemmas.{marked-whole}
-use Rattle.vm_code.specs.declared.code.Code.{Code}
+use Rattle.thin_code.specs.declared.code.Code.{Code}
 use Rattle.thin_run.specs.declared.rank.Rank.{Rank}
 use Rattle.thin_run.specs.declared.told.Told.{Told}
 use Rattle.thin_run.specs.Group.{setting, Stand, AddsDrain}

@@ -1,12 +1,12 @@
 -- The ranks of a run stand for its world.
 use Rattle.std.specs.Prelude.{ℕ, ◌≡◌, ◌≢◌, ◌+◌, ◌-◌, ◌*◌, ◌<◌, Bool, true, false, List, [], ◌++◌, length, get_or}
 use Rattle.std.specs.List.{sum_by}
-use Rattle.c_model.specs.declared.tree.Program.{Program}
+use Rattle.thin_model.specs.declared.tree.Program.{Program}
 use Rattle.mpi_types.specs.declared.entries.Entry.{Entry}
 use Rattle.w_model.specs.World.{Setting, RankPart, world_of}
 use Rattle.w_model.specs.Drain.{IsRunOf, IsRound, IsDrain, ticks_in_round}
 use Rattle.w_model.specs.Cut.{rank_numbers}
-use Rattle.vm_code.specs.declared.code.Code.{Code}
+use Rattle.thin_code.specs.declared.code.Code.{Code}
 use Rattle.thin_run.specs.declared.rank.Rank.{Rank}
 use Rattle.thin_run.specs.Rank.{StandsFor}
 

@@ -1,12 +1,12 @@
 -- A rank stands for a run so far.
 use Rattle.std.specs.Prelude.{ℕ, ◌≡◌, ◌+◌, ◌<◌, ◌≤◌, List, []}
-use Rattle.c_model.specs.declared.tree.Program.{Program}
-use Rattle.c_model.specs.declared.tree.Ending.TheVariants.{Paused}
-use Rattle.c_model.specs.Run.{Answer, run_of}
-use Rattle.vm_code.specs.declared.code.Code.{Code}
-use Rattle.vm_code.specs.Machine.{outcome_of}
-use Rattle.vm_code.specs.Means.{Stops}
-use Rattle.rank_machine.specs.Runs.{config_of}
+use Rattle.thin_model.specs.declared.tree.Program.{Program}
+use Rattle.thin_model.specs.declared.tree.Ending.TheVariants.{Paused}
+use Rattle.thin_model.specs.Run.{Answer, run_of}
+use Rattle.thin_code.specs.declared.code.Code.{Code}
+use Rattle.thin_code.specs.Machine.{outcome_of}
+use Rattle.thin_code.specs.Means.{Stops}
+use Rattle.thin_machine.specs.Runs.{config_of}
 use Rattle.thin_run.specs.declared.rank.Rank.{Rank}
 
 -- The rank is where the program's run is after as many ticks as the rank took. Where it is paused, its machine goes on

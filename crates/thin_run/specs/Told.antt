@@ -1,7 +1,7 @@
 -- What is told of a whole run.
 use Rattle.std.specs.Prelude.{ℕ, ◌≡◌, Bool, List, [], ◌∷◌, ◌++◌}
 use Rattle.std.specs.List.{flat_map}
-use Rattle.c_model.specs.declared.tree.Program.{Program}
+use Rattle.thin_model.specs.declared.tree.Program.{Program}
 use Rattle.mpi_types.specs.declared.entries.Entry.{Entry}
 use Rattle.mpi_types.specs.declared.entries.Entry.TheVariants.{Commit}
 use Rattle.w_model.specs.World.{Setting, world_of, start_world}
@@ -10,7 +10,7 @@ use Rattle.w_model.specs.Texts.{report_text, rank_line_at, end_line, end_at, is_
 use Rattle.mpi_types.specs.Journal.{run_lines}
 use Rattle.mpi_types.specs.Runs.{runs_of}
 use Rattle.w_model.specs.Drain.{IsDrain}
-use Rattle.vm_code.specs.declared.code.Code.{Code}
+use Rattle.thin_code.specs.declared.code.Code.{Code}
 use Rattle.thin_run.specs.declared.rank.Rank.{Rank}
 use Rattle.thin_run.specs.Rank.{StandsFor}
 use Rattle.thin_run.specs.declared.told.Told.{Told}

@@ -5,7 +5,7 @@ use crate::rank::Rank;
 use am_base::RankId;
 use mpi_types::{Entry, EntryRun, History};
 use std::alloc::AllocError;
-use vm_code::Compiled;
+use thin_code::Compiled;
 
 /// How many ticks each rank gets in a round.
 const TICKS_IN_ROUND: u64 = 1000;

@@ -1,9 +1,9 @@
 ghost use Rattle.std.specs.Prelude.{◌≡◌, ◌+◌, ◌≤◌, ◌<◌, ◌^◌, IfOk};
 
-use c_model::Ending;
-use rank_machine::{Machine, go};
 use std::alloc::{AllocError, Global};
-use vm_code::Compiled;
+use thin_code::Compiled;
+use thin_machine::{Machine, go};
+use thin_model::Ending;
 
 /// One rank's run so far: its machine, and how it stands.
 #[derive(Debug, Drop)]
@@ -13,8 +13,8 @@ pub struct Rank {
 }
 
 impl Rank {
-    ghost use Rattle.c_model.specs.declared.tree.Ending.TheVariants.{Paused};
-    ghost use Rattle.vm_code.specs.Means.{Means};
+    ghost use Rattle.thin_model.specs.declared.tree.Ending.TheVariants.{Paused};
+    ghost use Rattle.thin_code.specs.Means.{Means};
     ghost use Rattle.thin_run.specs.Rank.{StandsFor, Ran};
     ghost use Rattle.w_model.specs.Texts.{is_at_bound, is_unended, is_trapped};
 

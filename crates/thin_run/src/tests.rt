@@ -1,15 +1,15 @@
 ghost use Rattle.std.specs.Prelude.{IfOk};
-ghost use Rattle.vm_code.specs.Means.{Means};
+ghost use Rattle.thin_code.specs.Means.{Means};
 
 use super::*;
 use am_base::{Bytes, RankId};
-use c_model::{BinaryOp, Expr, FullExpr, Program, Stmt};
-use codegen::{GenError, generate};
 use sqlite_items::{Boxed, Items};
 use std::alloc::{AllocError, Global};
 use std::process::Abort;
 use std::test::Fail;
-use vm_code::Compiled;
+use thin_code::Compiled;
+use thin_codegen::{GenError, generate};
+use thin_model::{BinaryOp, Expr, FullExpr, Program, Stmt};
 use w_model::End;
 
 /// A program that counts so far, prints a text so many times and returns a quotient, where it is run, and what is to be

@@ -6,15 +6,15 @@ ghost use Rattle.w_model.specs.World.{Setting, World, world_of, start_world};
 ghost use Rattle.mpi_types.specs.declared.entries.Entry.{Entry as Event};
 ghost use Rattle.thin_run.specs.Told.{on_first, is_rank_at_bound, is_rank_unended, is_rank_trapped, Tells, TellsOfRun};
 ghost use Rattle.thin_run.specs.Group.{setting, Stand};
-ghost use Rattle.vm_code.specs.Means.{Means};
-ghost use Rattle.vm_code.specs.declared.code.Code.{Code};
+ghost use Rattle.thin_code.specs.Means.{Means};
+ghost use Rattle.thin_code.specs.declared.code.Code.{Code};
 
 use crate::group::drain;
 use crate::rank::Rank;
 use am_base::{Bytes, ProcId, RankId};
 use mpi_types::{Entry, EntryRun, History, append_runs};
 use std::alloc::{AllocError, Global};
-use vm_code::Compiled;
+use thin_code::Compiled;
 use w_model::{End, Standing, append_end, append_lines, append_rank};
 
 /// The texts that tell of a whole run, and how it ended.

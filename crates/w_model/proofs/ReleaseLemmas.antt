@@ -4,8 +4,8 @@ use Rattle.std.proofs.lemmas.List.{append-nil, drop_more, take_more, get_or-drop
 use Rattle.std.proofs.lemmas.List.{length-take-le}
 use Rattle.std.proofs.Math.ListN.{drop_of_length-le}
 use Rattle.std.specs.List.{flat_map}
-use Rattle.c_model.specs.Lines.{whole_lines, unfinished, lines_behind, part_behind}
-use Rattle.c_model.proofs.LineLemmas.{at_newline, at_full, at_more}
+use Rattle.thin_model.specs.Lines.{whole_lines, unfinished, lines_behind, part_behind}
+use Rattle.thin_model.proofs.LineLemmas.{at_newline, at_full, at_more}
 use Rattle.am_base.specs.Released.{released_line}
 
 -- From `start` on nothing is released yet, and up to `i` there is no end of a line.

@@ -3,8 +3,8 @@ use Rattle.std.specs.Prelude.{ℕ, ◌+◌, ◌==◌, if◌then◌else◌, Bool,
 use Rattle.std.specs.List.{flat_map, list_any, position}
 use Rattle.std.specs.Fmt.{decimal, signed_decimal}
 use Rattle.am_base.specs.Traps.{trap_text}
-use Rattle.c_model.specs.declared.tree.Ending.{Ending}
-use Rattle.c_model.specs.declared.tree.Ending.TheVariants.{Paused, Ended, Trapped}
+use Rattle.thin_model.specs.declared.tree.Ending.{Ending}
+use Rattle.thin_model.specs.declared.tree.Ending.TheVariants.{Paused, Ended, Trapped}
 use Rattle.mpi_types.specs.declared.entries.Entry.{Entry}
 use Rattle.w_model.specs.declared.report.End.{End}
 use Rattle.w_model.specs.declared.report.End.TheVariants.{Done, Deadlock, OutOfTicks, Trapped as AnyTrapped}

@@ -1,9 +1,9 @@
 -- A history of a run, the world after it, and which entries may stand where. It speaks of ranks that never move, each
 -- with a private memory, and of nothing else: no processors, no packets, no copies.
 use Rattle.std.specs.Prelude.{ℕ, ◌≡◌, ◌+◌, ◌<◌, ◌==◌, if◌then◌else◌, Bool, true, false, List, [], ◌∷◌}
-use Rattle.c_model.specs.declared.tree.Program.{Program}
-use Rattle.c_model.specs.Run.{Answer, Outcome, run_of}
-use Rattle.c_model.specs.declared.tree.Ending.TheVariants.{Paused}
+use Rattle.thin_model.specs.declared.tree.Program.{Program}
+use Rattle.thin_model.specs.Run.{Answer, Outcome, run_of}
+use Rattle.thin_model.specs.declared.tree.Ending.TheVariants.{Paused}
 use Rattle.mpi_types.specs.declared.entries.Entry.{Entry}
 use Rattle.mpi_types.specs.Runs.{is_mark}
 use Rattle.mpi_types.specs.declared.entries.Entry.TheVariants.{Tick, Match, Gather, Commit}

@@ -1,3 +1,4 @@
+//! What holds of drains.
 ghost use Rattle.w_model.specs.Drain.{DrainsAreWhole};
 ghost use Rattle.w_model.specs.Whole.{MarkedDrainsAreWhole};
 

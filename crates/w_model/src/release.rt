@@ -1,11 +1,12 @@
+//! The lines of what a rank printed.
 ghost use Rattle.std.specs.Prelude.{◌≡◌, ◌++◌, OnOk, IfOk};
-ghost use Rattle.c_model.specs.Lines.{whole_lines, unfinished, last_line};
+ghost use Rattle.thin_model.specs.Lines.{whole_lines, unfinished, last_line};
 ghost use Rattle.std.specs.List.{flat_map};
 ghost use Rattle.am_base.specs.Released.{released_line};
 
 use am_base::{Bytes, RankId, append_released};
-use c_model::Ending;
 use std::alloc::AllocError;
+use thin_model::Ending;
 
 /// The bytes after which a line ends by itself.
 const LINE_LIMIT: usize = 4096;

@@ -1,9 +1,10 @@
+//! The report: how each rank stands, and how the run ended.
 ghost use Rattle.std.specs.Prelude.{◌≡◌, ◌++◌, OnOk};
 ghost use Rattle.w_model.specs.Texts.{rank_line, state_text, end_line};
 
 use am_base::{Bytes, ProcId, RankId, decimal, signed_decimal};
-use c_model::Ending;
 use std::alloc::AllocError;
+use thin_model::Ending;
 
 /// How a run that is stuck ended.
 #[derive(Clone, Copy, Debug, PartialEq, Eq)]

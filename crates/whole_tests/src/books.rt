@@ -1,6 +1,7 @@
 //! `match`: calls of a book, one after another, and what they answer; and the tables of MPI's data. `post REQUEST CONTEXT
-//! SOURCE TAG`, `arrive CONTEXT MEMBER TAG BYTE`, `complete R`, `matched R`, `receive R`, `message R`, `peek CONTEXT SOURCE
-//! TAG`, `lists`; `again` goes on with the book that is made of the lists. A message's sender is ten more than its number.
+//! SOURCE TAG`, `arrive CONTEXT MEMBER TAG BYTE`, `complete R`, `live R`, `matched R`, `receive R`, `message R`, `peek CONTEXT
+//! SOURCE TAG`, `lists`, `count`; `again` goes on with the book that is made of the lists. A message's sender is ten more than
+//! its number.
 
 use crate::cases::begins;
 use crate::lines::{i32_at, u8_at, u32_at, word_at};
@@ -92,6 +93,7 @@ fn call_of(alloc: Global, line: &str) -> Result<Option<BookCall>, AllocError> {
         "arrive" => arrival_of(alloc, line),
         "peek" => peek_of(alloc, line),
         "lists" => Ok(Some(BookCall::AskLists)),
+        "count" => Ok(Some(BookCall::AskCount)),
         word => Ok(request_call(word, u32_at(line, 1))),
     }
 }
@@ -100,6 +102,7 @@ fn request_call(word: &str, request: Option<u32>) -> Option<BookCall> {
     let request = request?;
     match word {
         "complete" => Some(BookCall::Complete(request)),
+        "live" => Some(BookCall::AskLive(request)),
         "matched" => Some(BookCall::AskMatched(request)),
         "receive" => Some(BookCall::AskReceive(request)),
         "message" => Some(BookCall::AskMessage(request)),
@@ -174,7 +177,7 @@ fn show_answer(out: &mut String, answer: &BookAnswer) -> Result<(), AllocError> 
         BookAnswer::Met(None) => out.push_str("none met"),
         BookAnswer::Completed(Completion::Done(message)) => show_message(out, message),
         BookAnswer::Completed(Completion::NotYet) => out.push_str("not yet"),
-        BookAnswer::Matched(matched) => write!(out, "{matched}"),
+        BookAnswer::Live(answer) | BookAnswer::Matched(answer) => write!(out, "{answer}"),
         BookAnswer::Receive(receive) => write!(out, "receive {}", receive.request),
         BookAnswer::Found(Some(message)) => show_message(out, message),
         BookAnswer::Found(None) => out.push_str("no message"),
@@ -186,6 +189,7 @@ fn show_answer(out: &mut String, answer: &BookAnswer) -> Result<(), AllocError> 
                 lists.arrived.len()
             )
         }
+        BookAnswer::Count(count) => write!(out, "{count} live"),
         BookAnswer::Refused => out.push_str("refused"),
     }
 }

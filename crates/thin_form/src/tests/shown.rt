@@ -1,5 +1,5 @@
-use c_model::{BinaryOp, Expr, FullExpr, Program, Stmt, UnaryOp};
 use std::alloc::{AllocError, Global};
+use thin_model::{BinaryOp, Expr, FullExpr, Program, Stmt, UnaryOp};
 
 fn sign_of(op: UnaryOp) -> &'static str {
     match op {

@@ -26,4 +26,4 @@ pub returns-in_ok-message-in-AskMessage-clause-ok : goal.returns-in_ok-message-i
 returns-in_ok-message-in-AskMessage-clause-ok g c =
     message_asked _ c.args.call c.in-AskMessage.request c.in_ok-message-in-AskMessage.message c.in-AskMessage.is
     (rw (← c.in_ok-lists.ensures.copied) (c.if-not-may_ask.ensures.0 refl))
-    (of_copy _ _ _ _ c.in_ok-message-in-AskMessage.ensures c.found.ensures)
+    (of_copy _ _ _ _ c.in_ok-message-in-AskMessage.ensures c.found.ensures.told)

@@ -3,7 +3,7 @@ use Rattle.std.specs.List.{flat_map, range_with_len}
 use Rattle.mpi_types.specs.declared.entries.Entry.{Entry}
 use Rattle.w_model.specs.World.{Setting, world_of, start_world}
 use Rattle.w_model.specs.Cut.{lines_since}
-use Rattle.vm_code.specs.declared.code.Code.{Code}
+use Rattle.thin_code.specs.declared.code.Code.{Code}
 use Rattle.thin_run.specs.Group.{Stand}
 use Rattle.thin_run.proofs.told.append_all_lines.Given as goal
 

@@ -3,7 +3,7 @@ use Rattle.std.specs.List.{flat_map, range_with_len}
 use Rattle.mpi_types.specs.declared.entries.Entry.{Entry}
 use Rattle.w_model.specs.World.{Setting, world_of}
 use Rattle.w_model.specs.Texts.{rank_line_at}
-use Rattle.vm_code.specs.declared.code.Code.{Code}
+use Rattle.thin_code.specs.declared.code.Code.{Code}
 use Rattle.thin_run.specs.Group.{Stand}
 use Rattle.thin_run.specs.Told.{on_first}
 use Rattle.thin_run.proofs.told.append_rank_lines.Given as goal

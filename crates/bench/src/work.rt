@@ -1,0 +1,100 @@
+//! What is to be done: by which figure, how large, and how often.
+use crate::failed::Failed;
+use crate::heaps::{self, Pattern};
+use crate::parsing::{self, Shape};
+use crate::plans::{self, Rule};
+use crate::{lexing, matches, schedules};
+use std::alloc::Global;
+
+#[derive(Clone, Copy)]
+pub enum Figure {
+    Lex,
+    Parse(Shape),
+    Match,
+    Heap(Pattern),
+    Balance(Rule),
+    Schedule,
+}
+
+#[derive(Clone, Copy)]
+pub struct Work {
+    pub figure: Figure,
+    pub size: u32,
+    pub turns: u32,
+}
+
+/// Each figure once, small: its size, and its turns.
+pub const SMALL: [(Figure, u32, u32); 12] = [
+    (Figure::Lex, 4, 3),
+    (Figure::Parse(Shape::Flat), 2, 3),
+    (Figure::Parse(Shape::Deep), 2, 3),
+    (Figure::Parse(Shape::Names), 2, 3),
+    (Figure::Match, 10, 4),
+    (Figure::Heap(Pattern::Fill), 10, 3),
+    (Figure::Heap(Pattern::Sawtooth), 10, 3),
+    (Figure::Heap(Pattern::Random), 10, 30),
+    (Figure::Balance(Rule::Rotate), 100, 2),
+    (Figure::Balance(Rule::Greedy), 100, 2),
+    (Figure::Balance(Rule::Refine), 100, 2),
+    (Figure::Schedule, 10, 2),
+];
+
+impl Work {
+    /// The work that the words name: a figure, its size, how often it is done, and its kind where it has several.
+    pub(crate) fn of(words: &[String]) -> Option<Work> {
+        let (name, size, turns, kind) = match words {
+            [name, size, turns] => (name, size, turns, ""),
+            [name, size, turns, kind] => (name, size, turns, kind.as_str()),
+            _ => return None,
+        };
+        Some(Work {
+            figure: Figure::of(name.as_str(), kind)?,
+            size: size.parse().ok()?,
+            turns: turns.parse().ok()?,
+        })
+    }
+
+    /// How much was counted while the work was done.
+    pub(crate) fn done(self, alloc: Global) -> Result<u64, Failed> {
+        match self.figure {
+            Figure::Lex => lexing::tokens_in(alloc, self.size, self.turns),
+            Figure::Parse(shape) => parsing::externals_in(alloc, shape, self.size, self.turns),
+            Figure::Match => matches::made_behind(alloc, self.size, self.turns),
+            Figure::Heap(pattern) => heaps::calls_answered(alloc, pattern, self.size, self.turns),
+            Figure::Balance(rule) => plans::places_planned(alloc, rule, self.size, self.turns),
+            Figure::Schedule => schedules::events_read(alloc, self.size, self.turns),
+        }
+    }
+
+    /// The figure's name, and what is counted.
+    pub(crate) fn names(self) -> (&'static str, &'static str) {
+        match self.figure {
+            Figure::Lex => ("lex", "tokens"),
+            Figure::Parse(Shape::Flat) => ("parse flat", "functions and declarations"),
+            Figure::Parse(Shape::Deep) => ("parse deep", "functions and declarations"),
+            Figure::Parse(Shape::Names) => ("parse names", "functions and declarations"),
+            Figure::Match => ("match", "matches"),
+            Figure::Heap(Pattern::Fill) => ("heap fill", "calls"),
+            Figure::Heap(Pattern::Sawtooth) => ("heap sawtooth", "calls"),
+            Figure::Heap(Pattern::Random) => ("heap random", "calls"),
+            Figure::Balance(Rule::Rotate) => ("balance rotate", "places"),
+            Figure::Balance(Rule::Greedy) => ("balance greedy", "places"),
+            Figure::Balance(Rule::Refine) => ("balance refine", "places"),
+            Figure::Schedule => ("schedule", "events"),
+        }
+    }
+}
+
+impl Figure {
+    fn of(name: &str, kind: &str) -> Option<Figure> {
+        match (name, kind) {
+            ("lex", "") => Some(Figure::Lex),
+            ("match", "") => Some(Figure::Match),
+            ("schedule", "") => Some(Figure::Schedule),
+            ("parse", _) => Shape::of(kind).map(Figure::Parse),
+            ("heap", _) => Pattern::of(kind).map(Figure::Heap),
+            ("balance", _) => Rule::of(kind).map(Figure::Balance),
+            _ => None,
+        }
+    }
+}

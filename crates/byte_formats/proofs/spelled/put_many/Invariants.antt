@@ -1,6 +1,0 @@
-use Rattle.std.proofs.Common.{◌≡◌, ◌++◌, take}
-use Rattle.std.specs.List.{flat_map}
-use Rattle.byte_formats.proofs.spelled.put_many.Given as goal
-
-abbrev pub invariant-loop-item : goal.invariant-loop-item
-invariant-loop-item g l = l.out ≡ l.fn.out ++ flat_map g.T.Spelled.format.spell (take l.item-index l.items)

@@ -1,0 +1,5 @@
+mod SizeLemmas
+mod RoomLemmas
+mod RefusalLaws
+mod TableLaws
+mod PopLaws

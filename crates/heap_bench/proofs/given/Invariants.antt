@@ -1,5 +1,0 @@
-use Rattle.isomalloc.specs.Heap.{HasHeap}
-use Rattle.heap_bench.proofs.given.Given as goal
-
-abbrev pub invariant-loop-turn : goal.invariant-loop-turn
-invariant-loop-turn g l = HasHeap (g.M.Mem.rank_of l.memory) (g.M.Mem.bytes_of l.memory)

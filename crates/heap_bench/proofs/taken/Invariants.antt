@@ -1,5 +1,0 @@
-use Rattle.isomalloc.specs.Heap.{HasHeap}
-use Rattle.heap_bench.proofs.taken.Given as goal
-
-abbrev pub invariant-loop-block : goal.invariant-loop-block
-invariant-loop-block g l = HasHeap (g.M.Mem.rank_of l.memory) (g.M.Mem.bytes_of l.memory)
