@@ -4,7 +4,7 @@
 
 ghost use Rattle.std.specs.Prelude.{◌+◌, ◌≤◌, IfOk};
 ghost use Rattle.rank_range.specs.Layout.{heap_start, stack_start};
-ghost use Rattle.isomalloc.specs.Heap.{HasHeap};
+ghost use Rattle.rank_range.specs.Nodes.{HasHeap};
 
 use crate::cases::begins;
 use crate::lines::{no_case, number_at, u32_at, word_at};

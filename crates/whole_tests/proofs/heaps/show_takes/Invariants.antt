@@ -1,4 +1,4 @@
-use Rattle.isomalloc.specs.Heap.{HasHeap}
+use Rattle.rank_range.specs.Nodes.{HasHeap}
 use Rattle.whole_tests.proofs.heaps.show_takes.Given as goal
 
 abbrev pub invariant-loop-call : goal.invariant-loop-call
