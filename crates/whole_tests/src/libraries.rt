@@ -1,6 +1,6 @@
 //! `library`: calls of the C library on the memory of the rank that the group's first line names (`rank R`). A place is `g`, `h`
-//! or `s` and an offset from the first byte of the globals, the heap or the data stack, or `G`, `H` or `S` and how many bytes
-//! before that area's end; elsewhere words are numbers. `top T`, `put PLACE TEXT`, `show PLACE N`, and a call by its name.
+//! or `s` and an offset from the first byte of the globals, the heap or the data stack, or with a `-` how many bytes before that
+//! area's end; elsewhere words are numbers. `top T`, `put PLACE TEXT`, `show PLACE N`, and a call by its name.
 
 ghost use Rattle.std.specs.Prelude.{IsTrue, IfSome};
 ghost use Rattle.c_lib.specs.Answers.{is_made};
@@ -71,18 +71,18 @@ fn word_of(rank: RankId, top: u32, word: &str) -> u64 {
     let Some((area, offset)) = word.split_at_checked(1) else {
         return 0;
     };
-    let start = base(rank);
-    let at = number(offset).unwrap_or(0);
-    match area {
-        "g" => start.wrapping_add(GLOBALS_START as u64).wrapping_add(at),
-        "h" => start.wrapping_add(HEAP_START as u64).wrapping_add(at),
-        "s" => start.wrapping_add(STACK_START as u64).wrapping_add(at),
-        "G" => start.wrapping_add(HEAP_START as u64).wrapping_sub(at),
-        "H" => start.wrapping_add(STACK_START as u64).wrapping_sub(at),
-        "S" => start.wrapping_add(top as u64).wrapping_sub(at),
-        "-" => number(offset).unwrap_or(0).wrapping_neg(),
-        _ => number(word).unwrap_or(0),
-    }
+    let (start, end) = match area {
+        "g" => (GLOBALS_START, HEAP_START),
+        "h" => (HEAP_START, STACK_START),
+        "s" => (STACK_START, top),
+        "-" => return number(offset).unwrap_or(0).wrapping_neg(),
+        _ => return number(word).unwrap_or(0),
+    };
+    let (area, at) = match offset.strip_prefix("-") {
+        Some(before) => (end, number(before).unwrap_or(0).wrapping_neg()),
+        None => (start, number(offset).unwrap_or(0)),
+    };
+    base(rank).wrapping_add(area as u64).wrapping_add(at)
 }
 
 fn put(
