@@ -1,0 +1,6 @@
+mod Extending
+mod Valuing
+mod Acting
+mod Running
+mod Agreeing
+mod PlainRuns
