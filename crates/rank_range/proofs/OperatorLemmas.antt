@@ -18,7 +18,6 @@ use Rattle.am_base.specs.declared.traps.TrapCause.TheVariants.{DivisionByZero, D
 use Rattle.rank_range.specs.declared.kinds.Kind.{Kind}
 use Rattle.rank_range.specs.declared.kinds.Kind.TheVariants.{Char, UnsignedChar, Short, UnsignedShort, Int, Unsigned, Long, UnsignedLong}
 use Rattle.rank_range.specs.Kinds.{low_bits, reduced, word_of, value_of, extended, convert, is_signed, bits_of, AreWords, AreExtended, IsWordOf}
-use Rattle.rank_range.specs.declared.operators.Binary.{Binary}
 use Rattle.rank_range.specs.declared.operators.Binary.TheVariants.{Add, Subtract, Multiply, Divide, Remainder, And, Or, Xor, ShiftLeft, ShiftRight, Equal, NotEqual, Less, AtMost}
 use Rattle.rank_range.specs.Operators.{division_trap, divided, shifted, least, int_shl, gives, unless, tells, truth, changed, operate, operate_one, AreGivenWords, IsGivenWord}
 use Rattle.rank_range.proofs.KindLemmas.{word_signed, word_unsigned, low_8, low_16, low_32, low_64}
