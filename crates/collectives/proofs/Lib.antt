@@ -1,0 +1,4 @@
+pub mod TreeLemmas
+pub mod HeldLemmas
+pub mod SweepLemmas
+pub mod WeightLemmas

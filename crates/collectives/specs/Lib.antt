@@ -1,0 +1,5 @@
+pub mod Tree
+pub mod Held
+pub mod Sends
+pub mod Sweeps
+pub mod Weights
