@@ -2,3 +2,17 @@ pub mod TreeLemmas
 pub mod HeldLemmas
 pub mod SweepLemmas
 pub mod WeightLemmas
+pub mod ChainLemmas
+pub mod StageLemmas
+pub mod OrderLemmas
+pub mod GoLemmas
+pub mod BagLemmas
+pub mod LookLemmas
+pub mod ComeLemmas
+pub mod FallLemmas
+pub mod SystemLemmas
+pub mod JoinLemmas
+pub mod ArriveLemmas
+pub mod OutcomeLemmas
+pub mod KeepLemmas
+pub mod RestLemmas

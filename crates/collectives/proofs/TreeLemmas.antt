@@ -138,7 +138,7 @@ end_behind n c h = elim (cases_Bool (nat_eq c 0)) [
   | inr f ↦ rw f (omega (arith, lowest_pos c))
 ]
 
-end_within : (n c : ℕ) → end_of n c ≤ n
+pub end_within : (n c : ℕ) → end_of n c ≤ n
 end_within n c = elim (cases_Bool (nat_eq c 0)) [
   | inl e ↦ rw e (omega arith)
   | inr f ↦ rw f (omega arith)
@@ -203,7 +203,7 @@ parent_first n i within room h = elim (cases_Bool (nat_eq i 0)) [
       omega (arith, one)
 ]
 
-end_cut : (n c : ℕ) → 0 < c → end_of n c ≡ min n (c + lowest_bit c)
+pub end_cut : (n c : ℕ) → 0 < c → end_of n c ≡ min n (c + lowest_bit c)
 end_cut n c some = let f : nat_eq c 0 ≡ false = ne_eqb c 0 (λ e. absurd (omega arith)) in rw f refl
 
 end_whole : (n : ℕ) → end_of n 0 ≡ n
@@ -265,7 +265,7 @@ children_from_are (suc k) n i c within room behind is = elim (cases_Bool (nat_lt
 pub children_are : (n i : ℕ) → i < n → n ≤ 65536 → All (IsChild n i) (children n i)
 children_are n i within room = children_from_are n n i (i + 1) within room (omega arith) (λ h. parent_first n i within room h)
 
-children_past : (k n c e : ℕ) → e ≤ c → children_from k n c e ≡ []
+pub children_past : (k n c e : ℕ) → e ≤ c → children_from k n c e ≡ []
 children_past zero n c e h = refl
 children_past (suc k) n c e h = let none : nat_lt c e ≡ false = le-ltb c e h in rw none refl
 

@@ -3,3 +3,7 @@ pub mod Held
 pub mod Sends
 pub mod Sweeps
 pub mod Weights
+pub mod Slices
+pub mod Stages
+pub mod System
+pub mod Underway

@@ -9,6 +9,6 @@ mod sends;
 mod sweep;
 mod tree;
 
-pub use laws::arrivals_get_lighter;
+pub use laws::{all_are_gathered, all_gather_at_rest, arrivals_get_lighter, collectives_go_on};
 pub use sends::{SweepOut, TreeSend};
 pub use sweep::{arrive, begin};
