@@ -1,6 +1,6 @@
 //! Blocks of a rank's heap are taken and given back.
 ghost use Rattle.std.specs.Prelude.{IfOk};
-ghost use Rattle.isomalloc.specs.Heap.{HasHeap};
+ghost use Rattle.rank_range.specs.Nodes.{HasHeap};
 
 use crate::failed::Failed;
 use am_base::RankId;

@@ -29,7 +29,7 @@ use Rattle.c_model.specs.Statements.{Exits, Frame, Meaning, Acts, here_at, evalu
 use Rattle.c_model.proofs.Extending.{Joins, lower, joins_end, joins_trap, joins_turn, joins_tick, joins_memory, joins_set, joins_writing, joins_if, joins_choice}
 use Rattle.c_model.proofs.Valuing.{KeepsCalls, keeps_value, joins_store}
 
-acts_roll : (x : Stmt-F Stmt) → acts (roll-Stmt x) ≡ acts_step (map-Stmt Stmt Acts acts x)
+pub acts_roll : (x : Stmt-F Stmt) → acts (roll-Stmt x) ≡ acts_step (map-Stmt Stmt Acts acts x)
 unfolding acts
 acts_roll x = fold-roll-Stmt Acts acts_step x
 

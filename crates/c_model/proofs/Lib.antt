@@ -2,3 +2,5 @@ mod Extending
 mod Valuing
 mod Acting
 mod Running
+mod Agreeing
+mod PlainRuns

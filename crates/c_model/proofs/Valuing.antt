@@ -25,17 +25,17 @@ pub step_of : Step → ℕ → Value
 step_of = fold-Step Value (ℕ → Value) Value operand_value step_value value_step
 
 -- the equations at one layer
-operand_roll : (x : Operand-F Operand Step Expr)
+pub operand_roll : (x : Operand-F Operand Step Expr)
     → operand_of (roll-Operand x) ≡ operand_value (map-Operand Operand Step Expr Value (ℕ → Value) Value operand_of step_of value x)
 unfolding value operand_of step_of
 operand_roll x = fold-roll-Operand Value (ℕ → Value) Value operand_value step_value value_step x
 
-step_roll : (x : Step-F Operand Step Expr)
+pub step_roll : (x : Step-F Operand Step Expr)
     → step_of (roll-Step x) ≡ step_value (map-Step Operand Step Expr Value (ℕ → Value) Value operand_of step_of value x)
 unfolding value operand_of step_of
 step_roll x = fold-roll-Step Value (ℕ → Value) Value operand_value step_value value_step x
 
-value_roll : (x : Expr-F Operand Step Expr)
+pub value_roll : (x : Expr-F Operand Step Expr)
     → value (roll-Expr x) ≡ value_step (map-Expr Operand Step Expr Value (ℕ → Value) Value operand_of step_of value x)
 unfolding value operand_of step_of
 value_roll x = fold-roll-Expr Value (ℕ → Value) Value operand_value step_value value_step x

@@ -7,6 +7,7 @@ use Rattle.vm_code.specs.Stops.{Stop, Paused, Waits, Ended, Trapped, Done}
 use Rattle.c_types.specs.declared.program.Program.{Program}
 use Rattle.c_model.specs.Outcome.{Outcome}
 use Rattle.c_model.specs.Statements.{run_of}
+use Rattle.c_model.specs.Plain as plain
 
 -- What was done first is the beginning of what was done: the text is its first part, the calls of MPI are its first ones (which
 -- stand last in the list), and no fewer ticks were taken.
@@ -64,3 +65,9 @@ abbrev pub RunsTakeTicks : Type 0
 RunsTakeTicks =
     (program : Program) (segment : Segment) (rank n : ℕ) (answers : List Answer)
     → TakesTicks n (run_of program segment rank answers n)
+
+-- A run is what the plain recursion gives.
+abbrev pub RunsArePlain : Type 0
+RunsArePlain =
+    (program : Program) (segment : Segment) (rank n : ℕ) (answers : List Answer)
+    → run_of program segment rank answers n ≡ plain.run_of program segment rank answers n

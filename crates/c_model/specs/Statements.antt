@@ -238,8 +238,13 @@ entered (Some body) around words here next = with_memory (λ m.
     (statements body.stmts (record { around = around; start = top; unit = body.unit }) (exits_of (left_frame top next)))
     else traps DataStack here)
 
+-- A function that nobody defines has no statements. That makes the definition total, and says nothing of C.
+abbrev pub body_or_none : Option Body → Body
+body_or_none None = record { unit = 0; parameters = []; frame = 0; stmts = [] }
+body_or_none (Some body) = body
+
 abbrev pub body_of : Program → ℕ → Option Body
-body_of program number = elim (slice_get program.functions number) [ None ↦ None | Some function ↦ function.body ]
+body_of program number = elim (slice_get program.functions number) [ None ↦ None | Some function ↦ Some (body_or_none function.body) ]
 
 -- A call, where so many more may be under way: the call depth is looked at before the data stack.
 abbrev pub called : Program → (ℕ → ℕ) → ℕ → Calling
@@ -258,8 +263,8 @@ main_words m count = take count (1 ∷ address_of m globals_start ∷ [])
 abbrev pub parameter_count : Program → ℕ → ℕ
 parameter_count program number = elim (body_of program number) [ None ↦ 0 | Some body ↦ length body.parameters ]
 
--- The run of `main`: its return ends the rank with its result as an int. A program without `main` has no segment, so it isn't
--- run; that it ends at once says nothing of a rank.
+-- The run of `main`: its return ends the rank with its result as an int. A program without `main` has no segment; that it ends
+-- at once makes the definition total.
 abbrev pub main_run : Program → Segment → Memory → Option Main → Rest
 main_run program segment m None = stops (Ended (pos 0))
 main_run program segment m (Some main) =

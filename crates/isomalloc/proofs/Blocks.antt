@@ -8,7 +8,7 @@ use Rattle.rank_range.specs.Heap.{Fits, IsApart, rounded}
 use Rattle.rank_range.specs.Nodes.{Node, no_node, heap_units}
 use Rattle.rank_range.specs.declared.heap.Block.{Block}
 use Rattle.rank_range.proofs.HeapLemmas.{NoneBelow}
-use Rattle.isomalloc.specs.Heap.{with_block, without, IsLive}
+use Rattle.rank_range.specs.Heap.{with_block, without, IsLive}
 use Rattle.isomalloc.proofs.Shape.{Segment, NoTwo, piece, blocks_of, blocks-append}
 
 pub segment_order : (nodes : ℕ → Node) (before from after to : ℕ) (xs : List ℕ) → Segment nodes before from after to xs → from ≤ to

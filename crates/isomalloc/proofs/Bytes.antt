@@ -1,15 +1,14 @@
 -- What is left and what is read after numbers were put into a list of bytes.
-use Rattle.std.proofs.Common.{◌≡◌, ℕ, zero, suc, ◌+◌, ◌^◌, ◌<◌, ◌≤◌, ◌⊎◌, inl, inr, Bool, List, ◌∙◌, length, drop, slice_index, refl, sym, ap, subst, arith}
-use Rattle.std.proofs.lemmas.List.{get_or-drop}
+use Rattle.std.proofs.Common.{◌≡◌, ℕ, ◌+◌, ◌^◌, ◌<◌, ◌≤◌, ◌⊎◌, inl, inr, List, ◌∙◌, length, refl, sym, ap, arith}
 use Rattle.std.proofs.lemmas.Bool.{cases_lt, cases_eq, eq-eqb, ne_eqb}
-use Rattle.byteorder.specs.Endian.{little_from}
-use Rattle.rank_range.specs.Layout.{MarksChanges}
 use Rattle.rank_range.specs.Numbers.{number_at, with_number}
 use Rattle.rank_range.specs.Nodes.{Node, node_at, node_place, no_node}
-use Rattle.rank_range.proofs.NumberLemmas.{loaded_back, others_stay, length_stays, byte_stays}
+use Rattle.rank_range.proofs.NumberLemmas.{loaded_back, others_stay, length_stays}
+use Rattle.rank_range.proofs.ChangeLemmas.{beside_one, beside_both, number_stays, same_node, node_stays}
 use Rattle.isomalloc.specs.declared.nodes.Entry.{Entry}
 use Rattle.isomalloc.specs.declared.nodes.Header.{Header}
-use Rattle.isomalloc.specs.Entries.{header_of, node_of, with_node, repointed, NodesAre, StayBeside, Keeps}
+use Rattle.rank_range.specs.Parts.{StayBeside}
+use Rattle.isomalloc.specs.Entries.{header_of, node_of, with_node, repointed, NodesAre}
 
 -- A number was put there.
 pub record IsPut (old new : List ℕ) (at n v : ℕ) : Type 0 where

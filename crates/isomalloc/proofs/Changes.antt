@@ -5,8 +5,10 @@ use Rattle.rank_range.specs.Layout.{descriptors_start, globals_start}
 use Rattle.rank_range.specs.Nodes.{Node, node_at, node_count}
 use Rattle.isomalloc.specs.Heap.{BytesStay}
 use Rattle.isomalloc.specs.declared.nodes.Entry.{Entry}
-use Rattle.isomalloc.specs.Entries.{with_node, with_previous, node_of, repointed, split_nodes, joined_nodes, NodesAre, StayBeside}
-use Rattle.isomalloc.proofs.Bytes.{node_stays, with_node-here, with_node-other}
+use Rattle.rank_range.specs.Parts.{StayBeside}
+use Rattle.isomalloc.specs.Entries.{with_node, with_previous, node_of, repointed, split_nodes, joined_nodes, NodesAre}
+use Rattle.rank_range.proofs.ChangeLemmas.{node_stays}
+use Rattle.isomalloc.proofs.Bytes.{with_node-here, with_node-other}
 
 -- the header is no node
 pub nodes_stay : (old new : List ℕ) (nodes : ℕ → Node) → StayBeside old new 0 16 → NodesAre old nodes → NodesAre new nodes

@@ -1,14 +1,18 @@
 -- The heap before any block was taken.
-use Rattle.std.proofs.Common.{◌≡◌, ℕ, zero, suc, ◌+◌, ◌<◌, ◌≤◌, inl, inr, Bool, List, [], ◌∷◌, ◌++◌, ◌∙◌, drop, refl, sym, ap, subst, arith}
+use Rattle.std.proofs.Common.{◌≡◌, ℕ, zero, suc, ◌+◌, ◌<◌, ◌≤◌, inl, inr, Bool, List, [], ◌∷◌, ◌++◌, ◌∙◌, ◌*◌, slice_index, drop, refl, sym, ap, subst, arith}
 use Rattle.std.proofs.lemmas.Bool.{cases_eq, lt-ltb, le-ltb}
 use Rattle.std.proofs.lemmas.List.{get_or-drop}
-use Rattle.rank_range.specs.Layout.{IsZeroed, descriptors_start, globals_start}
+use Rattle.rank_range.specs.Layout.{descriptors_start, globals_start}
 use Rattle.rank_range.specs.Numbers.{number_at}
 use Rattle.rank_range.specs.Nodes.{Node, node_at, node_count, node_place, no_node, heap_units, times_in, SpellsBlocks}
+use Rattle.isomalloc.specs.Heap.{IsCleared}
 use Rattle.isomalloc.specs.declared.nodes.Entry.{Entry}
 use Rattle.isomalloc.specs.declared.nodes.Header.{Header}
-use Rattle.isomalloc.specs.Entries.{NodesAre, StayBeside, Keeps, header_of, node_of, fresh_entry, with_node}
-use Rattle.isomalloc.proofs.Bytes.{same_bytes, node_stays, with_node-here, with_node-other, beside_both, keeps_both, keeps_none}
+use Rattle.rank_range.specs.Parts.{StayBeside, Keeps}
+use Rattle.isomalloc.specs.Entries.{NodesAre, header_of, node_of, fresh_entry, with_node}
+use Rattle.rank_range.proofs.NumberLemmas.{same_bytes}
+use Rattle.rank_range.proofs.ChangeLemmas.{node_stays, beside_both, keeps_both, keeps_none}
+use Rattle.isomalloc.proofs.Bytes.{with_node-here, with_node-other}
 use Rattle.isomalloc.proofs.Shape.{first_or, IsLink, Segment, IsSpare, Spare, NoTwo, single, single_here, single_other}
 use Rattle.isomalloc.proofs.Sound.{Linked, IsRestZero, from_linked, spells}
 use Rattle.isomalloc.proofs.Blocks.{blocks_hole}
@@ -119,12 +123,15 @@ fresh_for rank bytes f count end =
 pub fresh_spells : (rank : ℕ) (bytes : List ℕ) → IsFresh bytes → SpellsBlocks rank bytes []
 fresh_spells rank bytes f = fresh_for rank bytes f 8000 refl
 
--- where all bytes are zero, the rest of a node is
-zero_rest : (bytes : List ℕ) (k : ℕ) → IsZeroed bytes → (node_at bytes k).rest ≡ 0
+-- where the descriptors are zero, the rest of a node is
+zero_rest : (bytes : List ℕ) (k : ℕ) → k < node_count → IsCleared bytes → (node_at bytes k).rest ≡ 0
 unfolding number_at
-zero_rest bytes k zeroed =
+zero_rest bytes k small cleared =
     same_bytes 0 3 (drop (node_place k + 13) bytes) []
-    (λ j below. get_or-drop (node_place k + 13) bytes j 0 ∙ zeroed.zeros (node_place k + 13 + j))
+    (λ j below.
+    let place : node_place k + 13 + j ≡ descriptors_start + (16 * k + 13 + j) = omega arith in
+    get_or-drop (node_place k + 13) bytes j 0 ∙ ap (slice_index bytes) place
+    ∙ cleared.nodes (16 * k + 13 + j) (omega (arith, small, below)))
 
 -- The unused nodes below a number are written.
 pub record Written (old_rank new_rank old_top new_top : ℕ) (old new : List ℕ) (old_marks new_marks : ℕ → Bool) (number : ℕ) : Type 0 where
@@ -133,10 +140,10 @@ pub record Written (old_rank new_rank old_top new_top : ℕ) (old new : List ℕ
   pub beside : StayBeside old new descriptors_start globals_start
   pub kept : Keeps old_rank new_rank old_top new_top old new old_marks new_marks
 
-pub written_none : (r i : ℕ) (bytes : List ℕ) (marks : ℕ → Bool) → IsZeroed bytes → Written r r i i bytes bytes marks marks 1
-written_none r i bytes marks zeroed = record {
+pub written_none : (r i : ℕ) (bytes : List ℕ) (marks : ℕ → Bool) → IsCleared bytes → Written r r i i bytes bytes marks marks 1
+written_none r i bytes marks cleared = record {
   fresh = λ k low below small. absurd (omega (arith, low, below));
-  rest = λ k below. zero_rest bytes k zeroed;
+  rest = λ k below. zero_rest bytes k below cleared;
   beside = record { at = λ n apart. refl };
   kept = keeps_none r i bytes marks;
 }
@@ -178,7 +185,7 @@ written_more r s t i j k old mid new old_marks mid_marks new_marks number entry 
 }
 
 -- the first node and the header are written behind the unused nodes
-pub fresh_done : (r s i j : ℕ) (old mid after new : List ℕ) (old_marks mid_marks : ℕ → Bool) (number : ℕ) → IsZeroed old → node_count ≤ number
+pub fresh_done : (r s i j : ℕ) (old mid after new : List ℕ) (old_marks mid_marks : ℕ → Bool) (number : ℕ) → IsCleared old → node_count ≤ number
     → Written r s i j old mid old_marks mid_marks number
     → NodesAre after (with_node 0 (record {
       start = 0;
@@ -190,7 +197,7 @@ pub fresh_done : (r s i j : ℕ) (old mid after new : List ℕ) (old_marks mid_m
     }) (node_at mid))
     → StayBeside mid after descriptors_start globals_start → StayBeside after new 0 16
     → header_of new ≡ record { first = 0; unused = 1; blocks = 0; holes = 1 } → IsFresh new
-fresh_done r s i j old mid after new old_marks mid_marks number zeroed end w are stay last header =
+fresh_done r s i j old mid after new old_marks mid_marks number cleared end w are stay last header =
     let whole : Entry = record { start = 0; units = 24576; previous = 65535; next = 65535; kind = 1 } in
     record {
       first = node_stays after new 0 16 0 last (inr (omega arith)) ∙ node_here mid after 0 whole are (omega arith) (w.rest 0 (omega arith));
@@ -200,5 +207,5 @@ fresh_done r s i j old mid after new old_marks mid_marks number zeroed end w are
           ∙ w.fresh k low (omega (arith, small, end)) small;
       header = header;
       zeros = λ at low high.
-          last.at at (inr low) ∙ stay.at at (inl (omega (arith, high))) ∙ w.beside.at at (inl (omega (arith, high))) ∙ zeroed.zeros at;
+          last.at at (inr low) ∙ stay.at at (inl (omega (arith, high))) ∙ w.beside.at at (inl (omega (arith, high))) ∙ cleared.header at high;
     }

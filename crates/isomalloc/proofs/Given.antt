@@ -4,7 +4,8 @@ use Rattle.std.proofs.lemmas.Bool.{cases_eq}
 use Rattle.rank_range.specs.Nodes.{Node, node_at, node_count, no_node, heap_units, IsSoundHeap, SpellsBlocks, live_blocks, hole_count, first_node, first_unused}
 use Rattle.rank_range.specs.declared.heap.Block.{Block}
 use Rattle.isomalloc.specs.declared.nodes.Header.{Header}
-use Rattle.isomalloc.specs.Heap.{without, IsLive, BytesStay}
+use Rattle.rank_range.specs.Heap.{without, IsLive}
+use Rattle.isomalloc.specs.Heap.{BytesStay}
 use Rattle.isomalloc.specs.Entries.{MayBeNode, NodesAre, header_of, joined_nodes}
 use Rattle.isomalloc.specs.Search.{IsUsed, IsBlockAt, Vacates}
 use Rattle.isomalloc.proofs.Shape.{first_or, last_or, Segment, NoTwo, count_of, piece, blocks_of, single, single_here, single_other, AlikeIn, count_alike, blocks_alike, no_two_alike, blocks-append, no_two_parts, no_two_back, no_two_whole, no_two_weaker, kind_or, times_first}

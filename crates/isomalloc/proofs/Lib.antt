@@ -11,3 +11,4 @@ pub mod Walk
 pub mod Given
 pub mod Top
 pub mod Fresh
+pub mod Seen

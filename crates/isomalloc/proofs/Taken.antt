@@ -4,7 +4,8 @@ use Rattle.rank_range.specs.Nodes.{Node, node_at, node_count, no_node, heap_unit
 use Rattle.rank_range.specs.Heap.{most_blocks}
 use Rattle.rank_range.specs.declared.heap.Block.{Block}
 use Rattle.isomalloc.specs.declared.nodes.Header.{Header}
-use Rattle.isomalloc.specs.Heap.{with_block, BytesStay}
+use Rattle.rank_range.specs.Heap.{with_block}
+use Rattle.isomalloc.specs.Heap.{BytesStay}
 use Rattle.isomalloc.specs.Entries.{MayBeNode, NodesAre, header_of, with_kind, split_nodes}
 use Rattle.isomalloc.specs.Search.{IsUsed, Occupies}
 use Rattle.isomalloc.proofs.Bytes.{with_node-here}

@@ -7,10 +7,15 @@ use Rattle.rank_range.specs.Heap.{IsFirstFit, IsApart, rounded}
 use Rattle.rank_range.specs.Nodes.{node_at, node_place, no_node, heap_units, SpellsBlocks, live_blocks}
 use Rattle.rank_range.specs.declared.heap.Block.{Block}
 use Rattle.rank_range.proofs.HeapLemmas.{found, too_many}
-use Rattle.isomalloc.specs.Heap.{HasHeap, HeapBytesStay, with_block, without}
-use Rattle.isomalloc.specs.Entries.{NodesAre, StayBeside, header_of}
+use Rattle.rank_range.specs.Heap.{with_block, without}
+use Rattle.rank_range.specs.Nodes.{HasHeap, HeapBytesStay, blocks_of as live_of}
+use Rattle.rank_range.proofs.FitLemmas.{are_spelled}
+use Rattle.isomalloc.specs.Heap.{OthersTellNothing}
+use Rattle.rank_range.specs.Parts.{StayBeside}
+use Rattle.isomalloc.specs.Entries.{NodesAre, header_of}
 use Rattle.isomalloc.specs.Search.{IsAnyHeap, IsFirstHole, FitsNowhere, Occupies}
-use Rattle.isomalloc.proofs.Bytes.{number_same, node_same, same_header}
+use Rattle.rank_range.proofs.ChangeLemmas.{number_same, node_same}
+use Rattle.isomalloc.proofs.Bytes.{same_header}
 use Rattle.isomalloc.proofs.Shape.{blocks_of, blocks_alike, no_two_alike, blocks-append}
 use Rattle.isomalloc.proofs.Steps.{beside}
 use Rattle.isomalloc.proofs.Sound.{to_linked, from_linked, sound_no_two, spelled_is, spells, are_alike, linked_are, pieces_blocks, pieces_count}
@@ -18,7 +23,7 @@ use Rattle.isomalloc.proofs.Blocks.{address_of, apart_between, blocks_hole}
 use Rattle.isomalloc.proofs.Taken.{known}
 
 pub any_heap : (rank : ℕ) (bytes : List ℕ) → HasHeap rank bytes → IsAnyHeap bytes
-any_heap rank bytes h = record { used = h.spelled.used; unused = h.spelled.unused; sound = h.spelled.sound }
+any_heap rank bytes h = record { used = h.used; unused = h.unused; sound = h.sound }
 
 -- as many blocks as the header says
 live_is : (rank : ℕ) (bytes : List ℕ) (blocks : List Block) → SpellsBlocks rank bytes blocks → length blocks ≡ live_blocks bytes
@@ -112,6 +117,13 @@ same_heap rank owner old new same bytes h =
     let Q : List ℕ → Type 0 = λ b. HasHeap rank b in
     subst P (sym same) (subst Q (sym bytes) h)
 
+-- bytes that spell some blocks spell those that are read along the links
+pub has_heap : (rank : ℕ) (bytes : List ℕ) (blocks : List Block) → SpellsBlocks rank bytes blocks → HasHeap rank bytes
+has_heap rank bytes blocks spelled = subst (SpellsBlocks rank bytes) (are_spelled rank bytes blocks spelled) spelled
+
+pub others_keep : OthersTellNothing
+others_keep rank old new stay h = has_heap rank new (live_of rank old) (others_tell_nothing rank old new (live_of rank old) stay h)
+
 pub some_heap : (rank owner : ℕ) (new : List ℕ) (blocks : List Block) → owner ≡ rank → SpellsBlocks rank new blocks → HasHeap owner new
 some_heap rank owner new blocks same spelled =
-    let P : ℕ → Type 0 = λ r. HasHeap r new in subst P (sym same) (record { blocks = blocks; spelled = spelled })
+    let P : ℕ → Type 0 = λ r. HasHeap r new in subst P (sym same) (has_heap rank new blocks spelled)

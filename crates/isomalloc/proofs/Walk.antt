@@ -6,7 +6,7 @@ use Rattle.rank_range.specs.Heap.{Fits, rounded}
 use Rattle.rank_range.specs.Nodes.{Node, node_at, node_count, no_node, heap_units, IsSoundHeap, first_node}
 use Rattle.rank_range.specs.declared.heap.Block.{Block}
 use Rattle.rank_range.proofs.HeapLemmas.{NoneBelow, none_before}
-use Rattle.isomalloc.specs.Heap.{IsLive}
+use Rattle.rank_range.specs.Heap.{IsLive}
 use Rattle.isomalloc.specs.Search.{IsAnyHeap, IsUsed, FitsNowhere, IsFirstHole, IsDead, IsBlockAt}
 use Rattle.isomalloc.proofs.Shape.{first_or, Segment, NoTwo, blocks_of, blocks-append, no_two_back}
 use Rattle.isomalloc.proofs.Steps.{beside}

@@ -7,8 +7,8 @@ use Rattle.std.proofs.lemmas.List.{get_or-append_right, length-take-le}
 use Rattle.byteorder.specs.Endian.{little_bytes}
 use Rattle.rank_range.specs.Numbers.{with_number}
 use Rattle.isomalloc.specs.Heap.{AreZero}
-use Rattle.isomalloc.specs.Entries.{StayBeside, Keeps}
-use Rattle.isomalloc.proofs.Bytes.{beside_one, beside_both, keeps_both, keeps_none}
+use Rattle.rank_range.specs.Parts.{StayBeside, Keeps}
+use Rattle.rank_range.proofs.ChangeLemmas.{beside_one, beside_both, keeps_both, keeps_none}
 
 abbrev AllZero : List ℕ → Type 0
 AllZero [] = ⊤

@@ -1,6 +1,5 @@
 -- What private functions read from and write to the header and the nodes.
-use Rattle.std.specs.Prelude.{ℕ, ◌≡◌, ◌+◌, ◌-◌, ◌<◌, ◌≤◌, ◌==◌, ◌⊎◌, Bool, if◌then◌else◌, nat_lt, List, length, slice_index}
-use Rattle.rank_range.specs.Layout.{MarksChanges}
+use Rattle.std.specs.Prelude.{ℕ, ◌≡◌, ◌+◌, ◌-◌, ◌<◌, ◌==◌, ◌⊎◌, if◌then◌else◌, nat_lt, List}
 use Rattle.rank_range.specs.Nodes.{Node, node_at, node_count, no_node, first_node, first_unused, live_blocks, hole_count}
 use Rattle.isomalloc.specs.declared.nodes.Entry.{Entry}
 use Rattle.isomalloc.specs.declared.nodes.Header.{Header}
@@ -134,14 +133,3 @@ joined_nodes number behind unused nodes =
 -- The nodes that the bytes spell are these.
 pub record NodesAre (bytes : List ℕ) (nodes : ℕ → Node) : Type 0 where
   pub at : (k : ℕ) → k < node_count → node_at bytes k ≡ nodes k
-
--- The bytes before `start` and from `end` on are as they were.
-pub record StayBeside (old new : List ℕ) (start end : ℕ) : Type 0 where
-  pub at : (i : ℕ) → (i < start) ⊎ (end ≤ i) → slice_index new i ≡ slice_index old i
-
--- What each change leaves: whose memory it is, its top, how many bytes there are, and the marks.
-pub record Keeps (old_rank new_rank old_top new_top : ℕ) (old new : List ℕ) (old_marks new_marks : ℕ → Bool) : Type 0 where
-  pub owner : new_rank ≡ old_rank
-  pub stack : new_top ≡ old_top
-  pub whole : length new ≡ length old
-  pub marks : MarksChanges old new old_marks new_marks

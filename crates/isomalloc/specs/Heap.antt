@@ -1,43 +1,16 @@
 -- What the calls of a rank's heap do to its live blocks and to its bytes. This profile's own.
-use Rattle.std.specs.Prelude.{ℕ, ◌≡◌, ◌+◌, ◌<◌, ◌≤◌, ◌==◌, ◌⊎◌, if◌then◌else◌, nat_lt, List, [], ◌∷◌, slice_index}
-use Rattle.rank_range.specs.Layout.{descriptors_start, globals_start}
-use Rattle.rank_range.specs.Nodes.{SpellsBlocks}
-use Rattle.rank_range.specs.declared.heap.Block.{Block}
+use Rattle.std.specs.Prelude.{ℕ, ◌≡◌, ◌+◌, ◌<◌, ◌≤◌, ◌⊎◌, List, length, slice_index}
+use Rattle.rank_range.specs.Layout.{range_bytes, descriptors_start, globals_start}
+use Rattle.rank_range.specs.Nodes.{HasHeap, HeapBytesStay}
 
--- The rank's bytes spell some heap.
-pub record HasHeap (rank : ℕ) (bytes : List ℕ) : Type 0 where
-  pub blocks : List Block
-  pub spelled : SpellsBlocks rank bytes blocks
-
--- The bytes in which a heap is spelled are as they were: the header's page, and the descriptors.
-abbrev pub HeapBytesStay : List ℕ → List ℕ → Type 0
-HeapBytesStay old new =
-    (i : ℕ) → (i < 4096) ⊎ ((descriptors_start ≤ i) × (i < globals_start)) → slice_index new i ≡ slice_index old i
-
--- No other byte tells of the live blocks.
+-- No byte but the header's page and the descriptors tells of the heap.
 abbrev pub OthersTellNothing : Type 0
-OthersTellNothing =
-    (rank : ℕ) (old new : List ℕ) (blocks : List Block) → HeapBytesStay old new
-    → SpellsBlocks rank old blocks → SpellsBlocks rank new blocks
+OthersTellNothing = (rank : ℕ) (old new : List ℕ) → HeapBytesStay old new → HasHeap rank old → HasHeap rank new
 
--- the live blocks with one more, at its place in the order of addresses
-abbrev pub with_block : Block → List Block → List Block
-with_block block [] = block ∷ []
-with_block block (other ∷ others) =
-    if nat_lt other.address block.address
-    then other ∷ with_block block others
-    else block ∷ other ∷ others
-
--- the live blocks but for that of the address
-abbrev pub without : ℕ → List Block → List Block
-without address [] = []
-without address (block ∷ blocks) =
-    if block.address == address then without address blocks else block ∷ without address blocks
-
--- The address is that of a live block.
-abbrev pub IsLive : ℕ → List Block → Type 0
-IsLive address [] = ⊥
-IsLive address (block ∷ blocks) = (block.address ≡ address) ⊎ IsLive address blocks
+-- Each byte but the header's page and the descriptors is as it was.
+abbrev pub OthersStay : List ℕ → List ℕ → Type 0
+OthersStay old new =
+    (i : ℕ) → 4096 ≤ i → (i < descriptors_start) ⊎ (globals_start ≤ i) → slice_index new i ≡ slice_index old i
 
 -- Each byte is as it was, but for the header's four numbers, the nodes, and the bytes from `start` up to `end`.
 abbrev pub BytesStay : List ℕ → List ℕ → ℕ → ℕ → Type 0
@@ -48,3 +21,9 @@ BytesStay old new start end =
 -- The n bytes from `start` on are zero.
 abbrev pub AreZero : List ℕ → ℕ → ℕ → Type 0
 AreZero bytes start n = (i : ℕ) → i < n → slice_index bytes (start + i) ≡ 0
+
+-- A range has all its bytes, and its header's page and its descriptors are zero.
+pub record IsCleared (bytes : List ℕ) : Type 0 where
+  pub whole : length bytes ≡ range_bytes
+  pub header : (i : ℕ) → i < 4096 → slice_index bytes i ≡ 0
+  pub nodes : AreZero bytes descriptors_start 131072

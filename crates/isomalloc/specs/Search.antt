@@ -4,7 +4,7 @@ use Rattle.rank_range.specs.Layout.{base_of, heap_start}
 use Rattle.rank_range.specs.Heap.{Fits, rounded}
 use Rattle.rank_range.specs.Nodes.{IsSoundHeap, SpellsBlocks, IsHole, IsBlock, node_at}
 use Rattle.rank_range.specs.declared.heap.Block.{Block}
-use Rattle.isomalloc.specs.Heap.{IsLive, with_block, without}
+use Rattle.rank_range.specs.Heap.{IsLive, with_block, without}
 
 -- The bytes spell some heap.
 pub record IsAnyHeap (bytes : List ℕ) : Type 0 where

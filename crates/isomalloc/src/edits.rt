@@ -4,7 +4,8 @@ ghost use Rattle.rank_range.specs.Layout.{range_bytes, descriptors_start, global
 ghost use Rattle.rank_range.specs.Heap.{most_blocks};
 ghost use Rattle.rank_range.specs.Nodes.{node_at, node_count, first_node, first_unused, live_blocks, hole_count, heap_units, IsHole, IsBlock};
 ghost use Rattle.isomalloc.specs.Heap.{BytesStay};
-ghost use Rattle.isomalloc.specs.Entries.{MayBeNode, header_of, with_node, with_kind, split_nodes, joined_nodes, NodesAre, Keeps};
+ghost use Rattle.rank_range.specs.Parts.{Keeps};
+ghost use Rattle.isomalloc.specs.Entries.{MayBeNode, header_of, with_node, with_kind, split_nodes, joined_nodes, NodesAre};
 ghost use Rattle.isomalloc.specs.Search.{IsUsed, Occupies, Vacates};
 
 use crate::nodes::{

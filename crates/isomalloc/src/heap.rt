@@ -1,10 +1,12 @@
 //! The calls of a rank's heap.
-ghost use Rattle.std.specs.Prelude.{◌≡◌, ◌≢◌, ◌+◌, ◌-◌, ◌<◌, [], List, OnOk, OnErr};
-ghost use Rattle.rank_range.specs.Layout.{base_of, IsZeroed, MarksChanges};
-ghost use Rattle.rank_range.specs.Heap.{IsFirstFit, rounded};
-ghost use Rattle.rank_range.specs.Nodes.{SpellsBlocks, node_count};
+ghost use Rattle.std.specs.Prelude.{◌≡◌, ◌≢◌, ◌+◌, ◌-◌, ◌<◌, [], Some, None, OnOk, OnErr};
+ghost use Rattle.rank_range.specs.Layout.{base_of};
+ghost use Rattle.rank_range.specs.Parts.{Keeps};
+ghost use Rattle.rank_range.specs.Heap.{IsFirstFit, IsLive, rounded, with_block, without};
+ghost use Rattle.rank_range.specs.Nodes.{HasHeap, SpellsBlocks, blocks_of, node_count};
+ghost use Rattle.rank_range.specs.Areas.{memory_of, take_block, give_block};
 ghost use Rattle.rank_range.specs.declared.heap.Block.{Block};
-ghost use Rattle.isomalloc.specs.Heap.{HasHeap, with_block, without, IsLive, BytesStay, AreZero, OthersTellNothing};
+ghost use Rattle.isomalloc.specs.Heap.{BytesStay, OthersStay, IsCleared, AreZero, OthersTellNothing};
 ghost use Rattle.isomalloc.specs.Entries.{fresh_entry};
 
 use crate::edits::{occupy, vacate};
@@ -15,7 +17,9 @@ use crate::nodes::{
     write_node,
 };
 use crate::zero::clear;
-use rank_range::{HEAP_START, MOST_BLOCKS, Mem, base};
+use rank_range::{
+    CONTROL_START, DESCRIPTORS_START, GLOBALS_START, HEAP_START, MOST_BLOCKS, Mem, base,
+};
 use thiserror::Error;
 
 /// The address is not that of a live block.
@@ -29,15 +33,59 @@ pub struct BadFree;
 pub fn take<M: Mem>(memory: &mut M, size: u64) -> u64
     requires { HasHeap (M.rank_of memory.old) (M.bytes_of memory.old) }
     ensures heap { HasHeap (M.rank_of memory.new) (M.bytes_of memory.new) }
-    ensures fit { (blocks : List Block) → SpellsBlocks (M.rank_of memory.old) (M.bytes_of memory.old) blocks → IsFirstFit (M.rank_of memory.old) blocks size result }
+    ensures taken { take_block size (memory_of (M.rank_of memory.old) (M.top_of memory.old) (M.bytes_of memory.old)) ≡ (result, memory_of (M.rank_of memory.old) (M.top_of memory.old) (M.bytes_of memory.new)) }
     ensures none { result ≡ 0 → M.bytes_of memory.new ≡ M.bytes_of memory.old }
     ensures none_marks { result ≡ 0 → M.marks_of memory.new ≡ M.marks_of memory.old }
-    ensures taken { result ≢ 0 → (blocks : List Block) → SpellsBlocks (M.rank_of memory.old) (M.bytes_of memory.old) blocks → SpellsBlocks (M.rank_of memory.old) (M.bytes_of memory.new) (with_block (record { address = result; length = rounded size }) blocks) }
+    ensures stays { BytesStay (M.bytes_of memory.old) (M.bytes_of memory.new) (result - base_of (M.rank_of memory.old)) (result - base_of (M.rank_of memory.old) + rounded size) }
+    ensures kept { Keeps (M.rank_of memory.old) (M.rank_of memory.new) (M.top_of memory.old) (M.top_of memory.new) (M.bytes_of memory.old) (M.bytes_of memory.new) (M.marks_of memory.old) (M.marks_of memory.new) }
+{
+    let _top = memory.top();
+    take_by_nodes(memory, size)
+}
+
+/// Gives the block at the address back. It is refused just where no live block has that address, and then nothing
+/// changes.
+pub fn give<M: Mem>(memory: &mut M, address: u64) -> Result<(), BadFree>
+    requires { HasHeap (M.rank_of memory.old) (M.bytes_of memory.old) }
+    ensures heap { HasHeap (M.rank_of memory.new) (M.bytes_of memory.new) }
+    ensures given { OnOk result (give_block address (memory_of (M.rank_of memory.old) (M.top_of memory.old) (M.bytes_of memory.old)) ≡ Some (memory_of (M.rank_of memory.old) (M.top_of memory.old) (M.bytes_of memory.new))) }
+    ensures refused { OnErr result (give_block address (memory_of (M.rank_of memory.old) (M.top_of memory.old) (M.bytes_of memory.old)) ≡ None) }
+    ensures same_bytes { OnErr result (M.bytes_of memory.new ≡ M.bytes_of memory.old) }
+    ensures same_marks { OnErr result (M.marks_of memory.new ≡ M.marks_of memory.old) }
+    ensures stays { BytesStay (M.bytes_of memory.old) (M.bytes_of memory.new) 0 0 }
+    ensures kept { Keeps (M.rank_of memory.old) (M.rank_of memory.new) (M.top_of memory.old) (M.top_of memory.new) (M.bytes_of memory.old) (M.bytes_of memory.new) (M.marks_of memory.old) (M.marks_of memory.new) }
+{
+    let _top = memory.top();
+    give_by_nodes(memory, address)
+}
+
+/// Makes a heap of any memory: one hole, and no live block. What stood in the header's page and in the descriptors is gone.
+pub fn setup<M: Mem>(memory: &mut M)
+    ensures heap { HasHeap (M.rank_of memory.new) (M.bytes_of memory.new) }
+    ensures none { blocks_of (M.rank_of memory.new) (M.bytes_of memory.new) ≡ [] }
+    ensures stays { OthersStay (M.bytes_of memory.old) (M.bytes_of memory.new) }
+    ensures kept { Keeps (M.rank_of memory.old) (M.rank_of memory.new) (M.top_of memory.old) (M.top_of memory.new) (M.bytes_of memory.old) (M.bytes_of memory.new) (M.marks_of memory.old) (M.marks_of memory.new) }
+{
+    let _top = memory.top();
+    clear(memory, 0, CONTROL_START / UNIT_BYTES);
+    clear(
+        memory,
+        DESCRIPTORS_START,
+        (GLOBALS_START - DESCRIPTORS_START) / UNIT_BYTES,
+    );
+    write_fresh(memory);
+}
+
+/// As `take`, by the nodes.
+fn take_by_nodes<M: Mem>(memory: &mut M, size: u64) -> u64
+    requires { HasHeap (M.rank_of memory.old) (M.bytes_of memory.old) }
+    ensures fit { IsFirstFit (M.rank_of memory.old) (blocks_of (M.rank_of memory.old) (M.bytes_of memory.old)) size result }
+    ensures none { result ≡ 0 → M.bytes_of memory.new ≡ M.bytes_of memory.old }
+    ensures none_marks { result ≡ 0 → M.marks_of memory.new ≡ M.marks_of memory.old }
+    ensures taken { result ≢ 0 → SpellsBlocks (M.rank_of memory.old) (M.bytes_of memory.new) (with_block (record { address = result; length = rounded size }) (blocks_of (M.rank_of memory.old) (M.bytes_of memory.old))) }
     ensures zero { result ≢ 0 → AreZero (M.bytes_of memory.new) (result - base_of (M.rank_of memory.old)) (rounded size) }
     ensures stays { BytesStay (M.bytes_of memory.old) (M.bytes_of memory.new) (result - base_of (M.rank_of memory.old)) (result - base_of (M.rank_of memory.old) + rounded size) }
-    ensures owner { M.rank_of memory.new ≡ M.rank_of memory.old }
-    ensures stack { M.top_of memory.new ≡ M.top_of memory.old }
-    ensures marks { MarksChanges (M.bytes_of memory.old) (M.bytes_of memory.new) (M.marks_of memory.old) (M.marks_of memory.new) }
+    ensures kept { Keeps (M.rank_of memory.old) (M.rank_of memory.new) (M.top_of memory.old) (M.top_of memory.new) (M.bytes_of memory.old) (M.bytes_of memory.new) (M.marks_of memory.old) (M.marks_of memory.new) }
 {
     let base = base(memory.rank());
     let live = read_header(memory).blocks;
@@ -57,20 +105,16 @@ pub fn take<M: Mem>(memory: &mut M, size: u64) -> u64
     base + offset as u64
 }
 
-/// Gives the block at the address back. It is refused just where no live block has that address, and then nothing
-/// changes.
-pub fn give<M: Mem>(memory: &mut M, address: u64) -> Result<(), BadFree>
+/// As `give`, by the nodes.
+fn give_by_nodes<M: Mem>(memory: &mut M, address: u64) -> Result<(), BadFree>
     requires { HasHeap (M.rank_of memory.old) (M.bytes_of memory.old) }
-    ensures heap { HasHeap (M.rank_of memory.new) (M.bytes_of memory.new) }
-    ensures live { OnOk result ((blocks : List Block) → SpellsBlocks (M.rank_of memory.old) (M.bytes_of memory.old) blocks → IsLive address blocks) }
-    ensures given { OnOk result ((blocks : List Block) → SpellsBlocks (M.rank_of memory.old) (M.bytes_of memory.old) blocks → SpellsBlocks (M.rank_of memory.old) (M.bytes_of memory.new) (without address blocks)) }
-    ensures refused { OnErr result ((blocks : List Block) → SpellsBlocks (M.rank_of memory.old) (M.bytes_of memory.old) blocks → IsLive address blocks → ⊥) }
+    ensures live { OnOk result (IsLive address (blocks_of (M.rank_of memory.old) (M.bytes_of memory.old))) }
+    ensures given { OnOk result (SpellsBlocks (M.rank_of memory.old) (M.bytes_of memory.new) (without address (blocks_of (M.rank_of memory.old) (M.bytes_of memory.old)))) }
+    ensures refused { OnErr result (IsLive address (blocks_of (M.rank_of memory.old) (M.bytes_of memory.old)) → ⊥) }
     ensures same_bytes { OnErr result (M.bytes_of memory.new ≡ M.bytes_of memory.old) }
     ensures same_marks { OnErr result (M.marks_of memory.new ≡ M.marks_of memory.old) }
     ensures stays { BytesStay (M.bytes_of memory.old) (M.bytes_of memory.new) 0 0 }
-    ensures owner { M.rank_of memory.new ≡ M.rank_of memory.old }
-    ensures stack { M.top_of memory.new ≡ M.top_of memory.old }
-    ensures marks { MarksChanges (M.bytes_of memory.old) (M.bytes_of memory.new) (M.marks_of memory.old) (M.marks_of memory.new) }
+    ensures kept { Keeps (M.rank_of memory.old) (M.rank_of memory.new) (M.top_of memory.old) (M.top_of memory.new) (M.bytes_of memory.old) (M.bytes_of memory.new) (M.marks_of memory.old) (M.marks_of memory.new) }
 {
     let _rank = memory.rank();
     let Some(number) = find_block(memory, address) else {
@@ -80,15 +124,12 @@ pub fn give<M: Mem>(memory: &mut M, address: u64) -> Result<(), BadFree>
     Ok(())
 }
 
-/// Makes the heap of fresh memory: one hole, and no live block.
-pub fn setup<M: Mem>(memory: &mut M)
-    requires { IsZeroed (M.bytes_of memory.old) }
-    ensures heap { HasHeap (M.rank_of memory.new) (M.bytes_of memory.new) }
+/// Writes the nodes and the header of a heap with no live block, where zeros stand.
+fn write_fresh<M: Mem>(memory: &mut M)
+    requires { IsCleared (M.bytes_of memory.old) }
     ensures spelled { SpellsBlocks (M.rank_of memory.old) (M.bytes_of memory.new) [] }
     ensures stays { BytesStay (M.bytes_of memory.old) (M.bytes_of memory.new) 0 0 }
-    ensures owner { M.rank_of memory.new ≡ M.rank_of memory.old }
-    ensures stack { M.top_of memory.new ≡ M.top_of memory.old }
-    ensures marks { MarksChanges (M.bytes_of memory.old) (M.bytes_of memory.new) (M.marks_of memory.old) (M.marks_of memory.new) }
+    ensures kept { Keeps (M.rank_of memory.old) (M.rank_of memory.new) (M.top_of memory.old) (M.top_of memory.new) (M.bytes_of memory.old) (M.bytes_of memory.new) (M.marks_of memory.old) (M.marks_of memory.new) }
 {
     for number in 1..NODE_COUNT {
         write_node(memory, number, unused_before(number));

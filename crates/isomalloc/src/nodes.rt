@@ -2,7 +2,8 @@
 ghost use Rattle.std.specs.Prelude.{◌≡◌, ◌+◌, ◌*◌, ◌<◌, ◌≤◌, length};
 ghost use Rattle.rank_range.specs.Layout.{range_bytes, descriptors_start, globals_start};
 ghost use Rattle.rank_range.specs.Nodes.{node_at, node_place, node_count, first_node};
-ghost use Rattle.isomalloc.specs.Entries.{MayBeNode, header_of, node_of, entry_of, with_node, with_kind, repointed, NodesAre, StayBeside, Keeps};
+ghost use Rattle.rank_range.specs.Parts.{StayBeside, Keeps};
+ghost use Rattle.isomalloc.specs.Entries.{MayBeNode, header_of, node_of, entry_of, with_node, with_kind, repointed, NodesAre};
 
 use rank_range::{DESCRIPTORS_START, Mem, Width};
 

@@ -3,7 +3,7 @@
 ghost use Rattle.std.specs.Prelude.{◌≡◌, ◌+◌, ◌*◌, ◌≤◌, length};
 ghost use Rattle.rank_range.specs.Layout.{range_bytes};
 ghost use Rattle.isomalloc.specs.Heap.{AreZero};
-ghost use Rattle.isomalloc.specs.Entries.{StayBeside, Keeps};
+ghost use Rattle.rank_range.specs.Parts.{StayBeside, Keeps};
 
 use rank_range::{Mem, Width};
 

@@ -1,8 +1,8 @@
 -- What is read and put by areas is what stands in the rank's bytes.
-use Rattle.std.proofs.Common.{◌≡◌, ℕ, zero, suc, ◌+◌, ◌-◌, ◌<◌, ◌≤◌, ◌⊎◌, ◌∙◌, inl, inr, Bool, true, false, List, [], ◌∷◌, length, take, drop, refl, sym, ap, subst, arith, Option, Some, None, replicate, Result, Ok, Err, IfOk, OnOk, OnErr}
+use Rattle.std.proofs.Common.{◌≡◌, ℕ, zero, suc, ◌+◌, ◌-◌, ◌<◌, ◌≤◌, ◌⊎◌, ◌∙◌, inl, inr, Bool, true, false, List, [], ◌∷◌, length, take, drop, refl, sym, ap, subst, arith, Option, Some, None, replicate, Result, Ok, Err, IfOk, OnOk, OnErr, length-drop, min}
 use Rattle.std.specs.Prelude.{if◌then◌else◌, nat_le, nat_lt, ◌&&◌, option_map, option_and_then, slice_index}
 use Rattle.std.proofs.lemmas.Bool.{lt-ltb, le-ltb, le-leb, lt-leb, leb-true, cases_lt, false_from_ne_true}
-use Rattle.std.proofs.lemmas.List.{take-take, drop-take, drop-drop, length-replicate}
+use Rattle.std.proofs.lemmas.List.{take-take, drop-take, drop-drop, length-replicate, length-take, ext_get_or, get_or-take, get_or-drop}
 use Rattle.std.proofs.Math.Bool.{and-false}
 use Rattle.rank_range.specs.Layout.{base_of, globals_start, heap_start, stack_start, range_bytes, AllIn, Accessible, IsRange}
 use Rattle.rank_range.specs.Parts.{part, with_part, StayBeside}
@@ -12,7 +12,7 @@ use Rattle.byteorder.specs.Endian.{little_number, little_bytes}
 use Rattle.byteorder.specs.Numbers.{length-bytes_low_first}
 use Rattle.rank_range.proofs.FitLemmas.{blocks_stay}
 use Rattle.rank_range.specs.Areas.{Areas, is_between, is_in, globals_at, heap_at, stack_at, bytes_from, bytes_at, put_at, with_bytes_at, areas_of, room_at, is_accessible, TellsAccessible, AreRead, ArePut, Becomes, copied_at, number_of, with_number_of}
-use Rattle.rank_range.proofs.PartLemmas.{part_length, part_put, part_stays, put_beside, put_length, put_none, no_part, no_put, number_part, number_put}
+use Rattle.rank_range.proofs.PartLemmas.{part_length, part_put, part_stays, put_beside, put_length, put_none, no_part, no_put, number_part, number_put, put_before, put_behind, put_inside}
 
 -- ---- tests
 
@@ -594,3 +594,62 @@ on_ok_three (Err e) P Q R S step p q r = tt
 pub on_err_by : {X E : Type 0} (r : Result X E) (P Q : Type 0) → (P → Q) → OnErr r P → OnErr r Q
 on_err_by (Ok x) P Q step p = tt
 on_err_by (Err e) P Q step p = step p
+
+-- ---- bytes that are alike from the globals on
+
+part_alike : (xs ys : List ℕ) (start size : ℕ) → length xs ≡ length ys → ((i : ℕ) → start ≤ i → slice_index xs i ≡ slice_index ys i)
+    → part xs start size ≡ part ys start size
+unfolding part
+part_alike xs ys start size same alike =
+    let count : length (take size (drop start xs)) ≡ length (take size (drop start ys)) =
+    length-take size (drop start xs) ∙ ap (min size) (length-drop start xs ∙ ap (λ (k : ℕ). k - start) same ∙ sym (length-drop start ys))
+    ∙ sym (length-take size (drop start ys)) in
+    ext_get_or 0 (take size (drop start xs)) (take size (drop start ys)) count
+    (λ i below.
+    let small : i < size = omega (arith, length-take size (drop start xs), below) in
+    get_or-take size (drop start xs) i 0 small ∙ get_or-drop start xs i 0
+    ∙ alike (start + i) (omega arith)
+    ∙ sym (get_or-drop start ys i 0) ∙ sym (get_or-take size (drop start ys) i 0 small))
+
+pub areas_alike : (rank top : ℕ) (xs ys : List ℕ) → length xs ≡ length ys → ((i : ℕ) → globals_start ≤ i → slice_index xs i ≡ slice_index ys i)
+    → areas_of rank top xs ≡ areas_of rank top ys
+unfolding areas_of
+areas_alike rank top xs ys same alike =
+    same_areas rank _ _ _ _ _ _
+    (part_alike xs ys globals_start (heap_start - globals_start) same alike)
+    (part_alike xs ys heap_start (stack_start - heap_start) same (λ i from. alike i (omega (arith, from))))
+    (part_alike xs ys stack_start (top - stack_start) same (λ i from. alike i (omega (arith, from))))
+
+zero_at : (n i : ℕ) → slice_index (replicate n 0) i ≡ 0
+zero_at zero i = refl
+zero_at (suc n) zero = refl
+zero_at (suc n) (suc i) = zero_at n i
+
+-- a block of zeros in the heap
+pub zeros_are : (rank top a n : ℕ) (old new : List ℕ) → IsRange top old → base_of rank + heap_start ≤ a → a + n ≤ base_of rank + stack_start
+    → length new ≡ length old
+    → ((i : ℕ) → i < n → slice_index new (a - base_of rank + i) ≡ 0)
+    → ((i : ℕ) → globals_start ≤ i → (i < a - base_of rank) ⊎ (a - base_of rank + n ≤ i) → slice_index new i ≡ slice_index old i)
+    → put_at (areas_of rank top old) a (replicate n 0) ≡ areas_of rank top new
+zeros_are rank top a n old new range from to same zeros stays =
+    let at = a - base_of rank in
+    let none : ℕ = 0 in
+    let bytes : List ℕ = replicate n none in
+    let count : length bytes ≡ n = length-replicate n none in
+    let whole = range.whole in
+    let room : at + length bytes ≤ length old = omega (arith, count, whole, from, to) in
+    let all : Accessible rank top a n = inr (inl (λ i small. (omega (arith, from), omega (arith, to, small)))) in
+    let few = room_of rank top a n all in
+    put_areas rank top a old bytes range (omega (arith, count, few))
+    ∙ areas_alike rank top (with_part old at bytes) new (put_length old bytes at room ∙ sym same)
+    (λ i low.
+    elim (cases_lt i at) [
+      | inl before ↦ put_before old bytes at i (omega (arith, room)) before ∙ sym (stays i low (inl before))
+      | inr behind ↦ elim (cases_lt i (at + n)) [
+        | inl inside ↦
+            let place : at + (i - at) ≡ i = omega (arith, behind) in
+            put_inside old bytes at i (omega (arith, room)) behind (omega (arith, inside, count))
+            ∙ zero_at n (i - at) ∙ sym (zeros (i - at) (omega (arith, inside, behind))) ∙ ap (slice_index new) place
+        | inr past ↦ put_behind old bytes at i (omega (arith, room)) (omega (arith, past, count)) ∙ sym (stays i low (inr past))
+      ]
+    ])

@@ -2,10 +2,10 @@
 use Rattle.std.proofs.Common.{◌≡◌, ℕ, zero, suc, ◌+◌, ◌*◌, ◌<◌, ◌≤◌, ◌⊎◌, ◌∙◌, inl, inr, Bool, true, false, List, [], ◌∷◌, length, refl, sym, ap, subst, arith}
 use Rattle.std.specs.Prelude.{if◌then◌else◌, nat_le, nat_lt, ◌==◌, ◌&&◌, ◌||◌}
 use Rattle.std.specs.List.{All}
-use Rattle.std.proofs.lemmas.Bool.{true≢false, lt-ltb, le-ltb, le-leb, lt-leb, ltb-true, leb-true, cases_lt}
+use Rattle.std.proofs.lemmas.Bool.{true≢false, lt-ltb, le-ltb, le-leb, lt-leb, ltb-true, leb-true, cases_lt, cases_eq, eq-eqb, ne_eqb, false_from_ne_true}
 use Rattle.std.proofs.lemmas.List.Elements.{All-head, All-tail, All-nil, All-cons}
 use Rattle.rank_range.specs.Layout.{base_of, heap_start, stack_start}
-use Rattle.rank_range.specs.Heap.{Fits, IsFirstFit, IsApart, rounded, most_blocks, is_apart, are_apart, fit_from, first_fit, AreFirstFits}
+use Rattle.rank_range.specs.Heap.{Fits, IsFirstFit, IsApart, rounded, most_blocks, is_apart, are_apart, fit_from, first_fit, AreFirstFits, IsOneFit, IsLive, is_live}
 use Rattle.rank_range.specs.Nodes.{Node, AreLinked, Cover, AreSpelled, BlocksStay, first_of, first_node, node_at, node_place, node_count, heap_units, pieces_of, chain_of, blocks_of}
 use Rattle.rank_range.specs.declared.heap.Block.{Block}
 use Rattle.rank_range.proofs.HeapLemmas.{NoneBelow, found, too_many, none_fits}
@@ -203,3 +203,40 @@ blocks_stay rank old new stay =
     ap (λ n. pieces_of rank new 2 (chain_of new heap_units n)) first
     ∙ ap (pieces_of rank new 2) (same_chain old new heap_units (first_node old) nodes)
     ∙ same_pieces rank old new 2 (chain_of old heap_units (first_node old)) (chain_below old heap_units (first_node old)) nodes
+
+-- ---- one answer
+
+pub fit_is_one : IsOneFit
+fit_is_one rank blocks size a b (inl x) (inl y) =
+    let low = x.2 b y.1 in
+    let high = y.2 a x.1 in
+    omega (arith, low, high)
+fit_is_one rank blocks size a b (inl x) (inr y) =
+    let few = x.0 in
+    absurd (elim y.1 [ inl many ↦ omega (arith, few, many) | inr nowhere ↦ nowhere a x.1 ])
+fit_is_one rank blocks size a b (inr x) (inl y) =
+    let few = y.0 in
+    absurd (elim x.1 [ inl many ↦ omega (arith, few, many) | inr nowhere ↦ nowhere b y.1 ])
+fit_is_one rank blocks size a b (inr x) (inr y) = x.0 ∙ sym y.0
+
+pub computed : (rank : ℕ) (blocks : List Block) (size a : ℕ) → IsFirstFit rank blocks size a → first_fit rank blocks size ≡ a
+computed rank blocks size a fit = fit_is_one rank blocks size (first_fit rank blocks size) a (are_first_fits rank blocks size) fit
+
+-- ---- live blocks
+
+pub live_yes : (address : ℕ) (blocks : List Block) → IsLive address blocks → is_live address blocks ≡ true
+live_yes address [] live = absurd live
+live_yes address (block ∷ blocks) (inl here) = ap (λ b. b || is_live address blocks) (eq-eqb block.address address here)
+live_yes address (block ∷ blocks) (inr there) =
+    ap (λ b. (block.address == address) || b) (live_yes address blocks there) ∙ or_true (block.address == address)
+
+told_live : (address : ℕ) (blocks : List Block) → is_live address blocks ≡ true → IsLive address blocks
+told_live address [] t = absurd (true≢false (sym t))
+told_live address (block ∷ blocks) t =
+    elim (cases_eq block.address address) [
+      | inl here ↦ inl here
+      | inr other ↦ inr (told_live address blocks (sym (ap (λ b. b || is_live address blocks) (ne_eqb block.address address other)) ∙ t))
+    ]
+
+pub live_no : (address : ℕ) (blocks : List Block) → (IsLive address blocks → ⊥) → is_live address blocks ≡ false
+live_no address blocks dead = false_from_ne_true (is_live address blocks) (λ t. dead (told_live address blocks t))

@@ -1,10 +1,10 @@
 -- What the operators' code computes on words is what they are on numbers.
-use Rattle.std.proofs.Common.{◌≡◌, ◌≢◌, ℕ, zero, suc, ◌+◌, ◌-◌, ◌*◌, ◌/◌, ◌%◌, ◌^◌, ◌<◌, ◌≤◌, ◌∙◌, refl, sym, ap, subst, arith, Bool, true, false, Option, Some, None, Ok, Err}
-use Rattle.std.specs.Prelude.{ℤ, pos, negsuc, ◌+ℤ◌, ◌-ℤ◌, ◌*ℤ◌, neg_ℤ, int_div, int_rem, int_lt}
+use Rattle.std.proofs.Common.{◌≡◌, ◌≢◌, ℕ, zero, suc, ◌+◌, ◌-◌, ◌*◌, ◌/◌, ◌%◌, ◌^◌, ◌<◌, ◌≤◌, ◌∙◌, refl, sym, ap, subst, arith, Bool, true, false, Option, Some, None, Result, Ok, Err}
+use Rattle.std.specs.Prelude.{ℤ, pos, negsuc, ◌+ℤ◌, ◌-ℤ◌, ◌*ℤ◌, neg_ℤ, int_div, int_rem, int_lt, int_le, nat_lt, not, if◌then◌else◌}
 use Rattle.std.specs.Bool.{one_answer}
 use Rattle.std.specs.Ordering.{int_eq}
 use Rattle.std.specs.Int.{Width, w8, w16, w32, w64, cast_signed, cast_unsigned, int_wrap, int_shr}
-use Rattle.std.specs.Int.RustNames.{FitsSigned}
+use Rattle.std.specs.Int.RustNames.{FitsSigned, bit_and, bit_or, bit_xor}
 use Rattle.std.proofs.lemmas.Bool.{true≢false, false_from_ne_true, lt-ltb, le-ltb}
 use Rattle.std.proofs.lemmas.Bool.Decides.{Decides-eqb, Decides-int_eq}
 use Rattle.std.proofs.lemmas.Option.{none-some}
@@ -17,8 +17,9 @@ use Rattle.am_base.specs.declared.traps.TrapCause.{TrapCause}
 use Rattle.am_base.specs.declared.traps.TrapCause.TheVariants.{DivisionByZero, DivisionOverflow, ShiftCount}
 use Rattle.rank_range.specs.declared.kinds.Kind.{Kind}
 use Rattle.rank_range.specs.declared.kinds.Kind.TheVariants.{Char, UnsignedChar, Short, UnsignedShort, Int, Unsigned, Long, UnsignedLong}
-use Rattle.rank_range.specs.Kinds.{low_bits, reduced, word_of, value_of, extended, convert, is_signed, bits_of, AreWords, AreExtended}
-use Rattle.rank_range.specs.Operators.{division_trap, divided, shifted, least, int_shl, gives, unless}
+use Rattle.rank_range.specs.Kinds.{low_bits, reduced, word_of, value_of, extended, convert, is_signed, bits_of, AreWords, AreExtended, IsWordOf}
+use Rattle.rank_range.specs.declared.operators.Binary.TheVariants.{Add, Subtract, Multiply, Divide, Remainder, And, Or, Xor, ShiftLeft, ShiftRight, Equal, NotEqual, Less, AtMost}
+use Rattle.rank_range.specs.Operators.{division_trap, divided, shifted, least, int_shl, gives, unless, tells, truth, changed, operate, operate_one, AreGivenWords, IsGivenWord}
 use Rattle.rank_range.proofs.KindLemmas.{word_signed, word_unsigned, low_8, low_16, low_32, low_64}
 
 -- the machine's width of a kind
@@ -500,3 +501,76 @@ pub are_extended : AreExtended
 unfolding extended convert
 are_extended from to word is =
     sym (ap word_of (reduced_word to (value_of from word))) ∙ ap (λ (n : ℕ). word_of (reduced to (pos n))) is
+
+-- ---- what is given
+
+-- a reduced number has the low bits of the number
+wrap_reduced : (kind : Kind) (z : ℤ) → int_wrap (machine_width kind) (reduced kind z) ≡ int_wrap (machine_width kind) z
+unfolding reduced int_wrap
+wrap_reduced Char z = wrap_again w8 z
+wrap_reduced UnsignedChar z = let low = low_below 8 z (omega arith) in ap (cast_signed w8) (let e : low_bits 8 z % 2 ^ 8 ≡ low_bits 8 z = omega (arith, low) in e)
+wrap_reduced Short z = wrap_again w16 z
+wrap_reduced UnsignedShort z = let low = low_below 16 z (omega arith) in ap (cast_signed w16) (let e : low_bits 16 z % 2 ^ 16 ≡ low_bits 16 z = omega (arith, low) in e)
+wrap_reduced Int z = wrap_again w32 z
+wrap_reduced Unsigned z = let low = low_below 32 z (omega arith) in ap (cast_signed w32) (let e : low_bits 32 z % 2 ^ 32 ≡ low_bits 32 z = omega (arith, low) in e)
+wrap_reduced Long z = wrap_again w64 z
+wrap_reduced UnsignedLong z = let low = low_below 64 z (omega arith) in ap (cast_signed w64) (let e : low_bits 64 z % 2 ^ 64 ≡ low_bits 64 z = omega (arith, low) in e)
+
+is_word : (kind : Kind) (z : ℤ) → IsWordOf kind (word_of (reduced kind z))
+unfolding extended
+is_word kind z =
+    ap word_of (reduced_word kind (reduced kind z) ∙ reduced_wrap kind (reduced kind z) z (wrap_reduced kind z))
+
+-- the word of an answer
+abbrev word_in : Result ℕ TrapCause → ℕ
+word_in (Ok word) = word
+word_in (Err cause) = 0
+
+abbrev is_given_ok : Result ℕ TrapCause → Bool
+is_given_ok (Ok word) = true
+is_given_ok (Err cause) = false
+
+not_given : (cause : TrapCause) (word : ℕ) → Err cause ≡ Ok word → ⊥
+not_given cause word is = true≢false (sym (ap is_given_ok is))
+
+by_word : (kind : Kind) (z : ℤ) (word : ℕ) → gives kind z ≡ Ok word → IsWordOf kind word
+by_word kind z word is = subst (IsWordOf kind) (ap word_in is) (is_word kind z)
+
+by_trap : (kind : Kind) (z : ℤ) (trap : Option TrapCause) (word : ℕ) → unless trap (gives kind z) ≡ Ok word → IsWordOf kind word
+by_trap kind z None word is = by_word kind z word is
+by_trap kind z (Some cause) word is = absurd (not_given cause word is)
+
+by_count : (kind : Kind) (z : ℤ) (few : Bool) (word : ℕ) → (if few then gives kind z else Err ShiftCount) ≡ Ok word → IsWordOf kind word
+by_count kind z true word is = by_word kind z word is
+by_count kind z false word is = absurd (not_given ShiftCount word is)
+
+test_word : (b : Bool) → IsWordOf Int (truth b)
+unfolding extended reduced word_of
+test_word true = refl
+test_word false = refl
+
+by_test : (b : Bool) (word : ℕ) → tells b ≡ Ok word → IsWordOf Int word
+by_test b word is = subst (IsWordOf Int) (ap word_in is) (test_word b)
+
+pub are_given : AreGivenWords
+unfolding operate
+are_given Add kind a b word is = by_word kind (value_of kind a +ℤ value_of kind b) word is
+are_given Subtract kind a b word is = by_word kind (value_of kind a -ℤ value_of kind b) word is
+are_given Multiply kind a b word is = by_word kind (value_of kind a *ℤ value_of kind b) word is
+are_given Divide kind a b word is =
+    by_trap kind (int_div (value_of kind a) (value_of kind b)) (division_trap kind (value_of kind a) (value_of kind b)) word is
+are_given Remainder kind a b word is =
+    by_trap kind (int_rem (value_of kind a) (value_of kind b)) (division_trap kind (value_of kind a) (value_of kind b)) word is
+are_given And kind a b word is = by_word kind (pos (bit_and (extended kind a) (extended kind b))) word is
+are_given Or kind a b word is = by_word kind (pos (bit_or (extended kind a) (extended kind b))) word is
+are_given Xor kind a b word is = by_word kind (pos (bit_xor (extended kind a) (extended kind b))) word is
+are_given ShiftLeft kind a b word is = by_count kind (int_shl (value_of kind a) b) (nat_lt b (bits_of kind)) word is
+are_given ShiftRight kind a b word is = by_count kind (int_shr (value_of kind a) b) (nat_lt b (bits_of kind)) word is
+are_given Equal kind a b word is = by_test (int_eq (value_of kind a) (value_of kind b)) word is
+are_given NotEqual kind a b word is = by_test (not (int_eq (value_of kind a) (value_of kind b))) word is
+are_given Less kind a b word is = by_test (int_lt (value_of kind a) (value_of kind b)) word is
+are_given AtMost kind a b word is = by_test (int_le (value_of kind a) (value_of kind b)) word is
+
+pub is_given : IsGivenWord
+unfolding operate_one
+is_given op kind a = is_word kind (changed op (value_of kind a))

@@ -106,11 +106,15 @@ first_piece (b ∷ rest) = if b == 0 then Ends Whole else (if b == 37 then behin
 abbrev pub with_piece : Piece → Format → Format
 with_piece piece format = record { pieces = piece ∷ format.pieces; end = format.end }
 
+-- the format that goes on behind its first piece
+abbrev pub going_on : (List ℕ → Format) → Read → Format
+going_on next (Found piece rest) = with_piece piece (next rest)
+going_on next (Ends end) = record { pieces = []; end = end }
+
 -- the format in bytes, of which at most n pieces are read
 abbrev pub format_within : ℕ → List ℕ → Format
 format_within zero bytes = record { pieces = []; end = Open }
-format_within (suc n) bytes =
-    elim (first_piece bytes) [ Found piece rest ↦ with_piece piece (format_within n rest) | Ends end ↦ record { pieces = []; end = end } ]
+format_within (suc n) bytes = going_on (format_within n) (first_piece bytes)
 
 -- The format that begins these bytes: each piece has a byte at least.
 unfoldable pub format_of : List ℕ → Format

@@ -1,7 +1,7 @@
 -- What the functions of the library do (C11, 7.21 to 7.24), but for those of the heap and `exit`: from the words of their
 -- arguments and the areas of memory to a value, a text and the areas then, or a trap. All bytes that are read or written are
 -- checked before any is written. What this profile has otherwise than C is said at each.
-use Rattle.std.specs.Prelude.{ℕ, ◌+◌, ◌-◌, ◌*◌, ◌^◌, ◌%◌, ◌==◌, ◌&&◌, ◌||◌, ℤ, pos, negsuc, if◌then◌else◌, Bool, true, false, nat_lt, nat_le, List, [], ◌∷◌, ◌++◌, length, replicate, Option, Some, None, codes, unsigned_abs, neg_ℤ}
+use Rattle.std.specs.Prelude.{ℕ, ◌+◌, ◌-◌, ◌*◌, ◌^◌, ◌%◌, ◌==◌, ◌&&◌, ◌||◌, ℤ, pos, negsuc, if◌then◌else◌, Bool, true, false, nat_lt, nat_le, List, [], ◌∷◌, ◌++◌, length, slice_index, drop, replicate, Option, Some, None, codes, unsigned_abs, neg_ℤ}
 use Rattle.std.specs.Fmt.{decimal, digits}
 use Rattle.am_base.specs.declared.traps.TrapCause.{TrapCause}
 use Rattle.am_base.specs.declared.traps.TrapCause.TheVariants.{BadAddress, BadFormat}
@@ -9,7 +9,7 @@ use Rattle.am_base.specs.declared.calls.LibCall.{LibCall}
 use Rattle.am_base.specs.declared.calls.LibCall.TheVariants as lib
 use Rattle.rank_range.specs.declared.kinds.Kind.TheVariants as kind
 use Rattle.rank_range.specs.Kinds.{value_of, word_of, reduced}
-use Rattle.rank_range.specs.Areas.{Areas, bytes_from, bytes_at, with_bytes_at, text_at}
+use Rattle.rank_range.specs.Areas.{Areas, bytes_from, bytes_at, with_bytes_at, copied_at, text_at}
 use Rattle.rank_range.specs.Formats.{What, Signed, Unsigned, Hexadecimal, Character, Text, Conversion, Piece, Plain, Converts, Format, End, Whole, Bad, Open, format_of, in_width, written_number}
 
 -- What a call does: a value, a text that is printed, and the areas then; or a trap, which changes nothing.
@@ -30,14 +30,9 @@ abbrev pub with_written : Option Areas → (Areas → LibraryDone) → LibraryDo
 with_written None next = Fails BadAddress
 with_written (Some areas) next = next areas
 
--- the word of the argument of that number
+-- the word of the argument of that number, from 0
 abbrev pub argument : List ℕ → ℕ → ℕ
-argument [] n = 0
-argument (w ∷ ws) n = if n == 0 then w else argument ws (n - 1)
-
-abbrev pub rest_of : List ℕ → List ℕ
-rest_of [] = []
-rest_of (w ∷ ws) = ws
+argument words n = slice_index words n
 
 -- What pieces of a format write, or why they don't. Each conversion takes one more argument; one that is missing is a bad
 -- format, as is all that is read of a format behind its bad conversion.
@@ -142,12 +137,11 @@ with_int (Some z) areas = answer (reduced kind.Int z) areas
 -- The functions. Numbers that overflow lose their high bits. A copy goes as if by a buffer, where the ranges overlap too, which C
 -- leaves open. A comparison gives -1, 0 or 1.
 unfoldable pub library_does : LibCall → List ℕ → Areas → LibraryDone
-library_does lib.Printf words areas = printf_does areas (format_of (bytes_from areas (argument words 0))) (rest_of words)
+library_does lib.Printf words areas = printf_does areas (format_of (bytes_from areas (argument words 0))) (drop 1 words)
 library_does lib.Puts words areas = with_read (text_at areas (argument words 0)) (λ text. Does 0 (text ++ codes "\n") areas)
 library_does lib.Putchar words areas = Does (argument words 0 % 256) (argument words 0 % 256 ∷ []) areas
 library_does lib.Memcpy words areas =
-    with_read (bytes_at areas (argument words 1) (argument words 2)) (λ bytes.
-    with_written (with_bytes_at areas (argument words 0) bytes) (λ new. Does (argument words 0) [] new))
+    with_written (copied_at areas (argument words 0) (argument words 1) (argument words 2)) (λ new. Does (argument words 0) [] new)
 library_does lib.Memset words areas =
     with_written (with_bytes_at areas (argument words 0) (replicate (argument words 2) (argument words 1 % 256)))
     (λ new. Does (argument words 0) [] new)

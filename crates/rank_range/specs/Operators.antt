@@ -1,7 +1,7 @@
 -- The operators on whole numbers (C11, 6.5.3.3 and 6.5.5 to 6.5.12): on mathematical numbers, and then reduced to the
 -- kind. The traps, the sign of a right shift, and that signed numbers lose their high bits as unsigned ones do are this
 -- profile's own.
-use Rattle.std.specs.Prelude.{ℕ, ℤ, pos, negsuc, ◌^◌, ◌&&◌, not, if◌then◌else◌, Bool, nat_lt, int_lt, int_le, int_div, int_rem, ◌+ℤ◌, ◌-ℤ◌, ◌*ℤ◌, neg_ℤ, Option, Some, None, Result, Ok, Err}
+use Rattle.std.specs.Prelude.{ℕ, ℤ, pos, negsuc, ◌≡◌, ◌^◌, ◌&&◌, not, if◌then◌else◌, Bool, nat_lt, int_lt, int_le, int_div, int_rem, ◌+ℤ◌, ◌-ℤ◌, ◌*ℤ◌, neg_ℤ, Option, Some, None, Result, Ok, Err}
 use Rattle.std.specs.Ordering.{int_eq}
 use Rattle.std.specs.Int.{int_shr}
 use Rattle.std.specs.Int.RustNames.{bit_and, bit_or, bit_xor}
@@ -13,7 +13,7 @@ use Rattle.rank_range.specs.declared.operators.Unary.{Unary}
 use Rattle.rank_range.specs.declared.operators.Unary.TheVariants.{Negate, Complement}
 use Rattle.rank_range.specs.declared.operators.Binary.{Binary}
 use Rattle.rank_range.specs.declared.operators.Binary.TheVariants.{Add, Subtract, Multiply, Divide, Remainder, And, Or, Xor, ShiftLeft, ShiftRight, Equal, NotEqual, Less, AtMost}
-use Rattle.rank_range.specs.Kinds.{bits_of, reduced, word_of, value_of, extended}
+use Rattle.rank_range.specs.Kinds.{bits_of, reduced, word_of, value_of, extended, IsWordOf}
 
 -- the value of a test
 abbrev pub truth : Bool → ℕ
@@ -86,3 +86,28 @@ operate Equal kind a b = tells (int_eq (value_of kind a) (value_of kind b))
 operate NotEqual kind a b = tells (not (int_eq (value_of kind a) (value_of kind b)))
 operate Less kind a b = tells (int_lt (value_of kind a) (value_of kind b))
 operate AtMost kind a b = tells (int_le (value_of kind a) (value_of kind b))
+
+-- the kind of what an operator gives: a test gives an `int`
+abbrev pub result_kind : Binary → Kind → Kind
+result_kind Equal kind = Int
+result_kind NotEqual kind = Int
+result_kind Less kind = Int
+result_kind AtMost kind = Int
+result_kind Add kind = kind
+result_kind Subtract kind = kind
+result_kind Multiply kind = kind
+result_kind Divide kind = kind
+result_kind Remainder kind = kind
+result_kind And kind = kind
+result_kind Or kind = kind
+result_kind Xor kind = kind
+result_kind ShiftLeft kind = kind
+result_kind ShiftRight kind = kind
+
+-- What is given is the word of a number of that kind.
+abbrev pub AreGivenWords : Type 0
+AreGivenWords =
+    (op : Binary) (kind : Kind) (a b word : ℕ) → operate op kind a b ≡ Ok word → IsWordOf (result_kind op kind) word
+
+abbrev pub IsGivenWord : Type 0
+IsGivenWord = (op : Unary) (kind : Kind) (a : ℕ) → IsWordOf kind (operate_one op kind a)

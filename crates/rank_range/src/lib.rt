@@ -26,6 +26,6 @@ pub use layout::{
 pub use lists::{OffsetList, WordList};
 pub use mem::{BadAddress, Mem};
 pub use numbers::{read_number, stored_numbers_are_loaded, write_number};
-pub use operators::{Binary, Unary, operate, operate_one};
+pub use operators::{Binary, Unary, operate, operate_one, words_are_given};
 pub use run::{CallOut, Ending, LibOut, LibStop, Output, Regs, Segment, Trap, lines_are_the_cut};
 pub use width::Width;

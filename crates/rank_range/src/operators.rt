@@ -5,7 +5,7 @@ ghost use Rattle.std.specs.Ordering.{int_eq};
 ghost use Rattle.std.specs.Int.{int_shr};
 ghost use Rattle.rank_range.specs.Kinds.{is_signed, reduced, word_of, value_of};
 ghost use Rattle.rank_range.specs.Operators as operators;
-ghost use Rattle.rank_range.specs.Operators.{truth, least, divided, division_trap, shifted, int_shl};
+ghost use Rattle.rank_range.specs.Operators.{truth, least, divided, division_trap, shifted, int_shl, AreGivenWords, IsGivenWord};
 
 use crate::{Kind, extended};
 use am_base::TrapCause;
@@ -237,3 +237,9 @@ fn truth(is: bool) -> u64
 {
     if is { 1 } else { 0 }
 }
+
+/// Laws: what an operator gives is the word of a number of its kind, and of `int` where it is a test.
+pub fn words_are_given()
+    ensures two { AreGivenWords }
+    ensures one { IsGivenWord }
+{}

@@ -9,32 +9,40 @@ use crate::tables;
 use am_base::{Bytes, RankId};
 use matcher::ListBook;
 use mpi_types::{
-    BookAnswer, BookCall, Completion, Ctx, Envelope, Level, MatchBook, Message, Posted, ask_all,
-    books_agree,
+    BookAnswer, BookCall, Completion, Ctx, Envelope, Level, MatchBook, Message, Posted, ask,
+    ask_all, books_agree,
 };
 use std::alloc::{AllocError, Global};
 
 pub fn play(alloc: Global, out: &mut String, group: &[&str]) -> Result<(), AllocError> {
     books_agree::<ListBook, ListBook>();
     let mut book = ListBook::new(alloc);
+    let played = play_on(alloc, &mut book, out, group);
+    drop(book);
+    played
+}
+
+fn play_on(
+    alloc: Global,
+    book: &mut ListBook,
+    out: &mut String,
+    group: &[&str],
+) -> Result<(), AllocError> {
     for line in group {
         if begins(out, line)? {
-            if *line == "again" {
-                book = again(alloc, &book)?;
-                out.push_str("made of its lists")?;
-            } else {
-                answer(alloc, &mut book, out, line)?;
-            }
+            answer(alloc, book, out, line)?;
             out.push_str("\n")?;
         }
     }
     Ok(())
 }
 
-/// The book of this one's lists.
-fn again(alloc: Global, book: &ListBook) -> Result<ListBook, AllocError> {
+/// Makes the book that of its own lists, and calls it as often as there are calls in an empty list.
+fn show_again(alloc: Global, book: &mut ListBook, out: &mut String) -> Result<(), AllocError> {
     let lists = book.lists(alloc)?;
-    ListBook::from_lists(alloc, lists)
+    *book = ListBook::from_lists(alloc, lists)?;
+    let answers = ask_all(book, alloc, Vec::new(alloc))?;
+    write!(out, "made of its lists, {} answers", answers.len())
 }
 
 fn answer(
@@ -43,16 +51,25 @@ fn answer(
     out: &mut String,
     line: &str,
 ) -> Result<(), AllocError> {
-    let Some(call) = call_of(alloc, line)? else {
-        return tables::answer(alloc, out, line);
-    };
-    let mut calls = Vec::new(alloc);
-    calls.push(call)?;
-    let answers = ask_all(book, alloc, calls)?;
-    for answer in &answers {
-        show_answer(out, answer)?;
+    if line == "again" {
+        return show_again(alloc, book, out);
     }
-    Ok(())
+    match call_of(alloc, line)? {
+        Some(call) => show_asked(alloc, book, out, call),
+        None => tables::answer(alloc, out, line),
+    }
+}
+
+fn show_asked(
+    alloc: Global,
+    book: &mut ListBook,
+    out: &mut String,
+    call: BookCall,
+) -> Result<(), AllocError> {
+    let answer = ask(book, alloc, call)?;
+    let shown = show_answer(out, &answer);
+    drop(answer);
+    shown
 }
 
 /// The context of that number: the world's, or that of a duplicate of the world.

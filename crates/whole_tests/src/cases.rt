@@ -2,7 +2,8 @@
 
 use crate::word::Word;
 use crate::{
-    books, commands, fields, heaps, lexing, memory, names, outside, parsing, plans, schedules,
+    books, collectives, commands, fields, heaps, lexing, libraries, memory, names, outside,
+    parsing, plans, schedules,
 };
 use std::alloc::{AllocError, Global};
 
@@ -31,7 +32,9 @@ fn play(alloc: Global, out: &mut String, word: Word, group: &[&str]) -> Result<(
         Word::Files => outside::play(alloc, out, group),
         Word::Memory => memory::play(alloc, out, group),
         Word::Heap => heaps::play(alloc, out, group),
+        Word::Library => libraries::play(alloc, out, group),
         Word::Match => books::play(alloc, out, group),
+        Word::Collect => collectives::play(alloc, out, group),
         _ => {
             for line in group {
                 if begins(out, line)? {
@@ -65,6 +68,8 @@ fn answer(alloc: Global, out: &mut String, word: Word, line: &str) -> Result<(),
         Word::Parse => parsing::answer(alloc, out, line),
         Word::Schedule => schedules::answer(alloc, out, line),
         Word::Plans => plans::answer(alloc, out, line),
-        Word::Files | Word::Memory | Word::Heap | Word::Match => Ok(()),
+        Word::Files | Word::Memory | Word::Heap | Word::Library | Word::Match | Word::Collect => {
+            Ok(())
+        }
     }
 }

@@ -1,7 +1,9 @@
 //! `fields`: `decimal N` and `signed N` show digits; `put WIDTH N` bytes; `take WIDTH AT HH..` a number in them and the
 //! place behind it; `bytes A B` and `lines A B ..` what bytes and lines become; `order A B` how two numbers stand.
 
-use crate::lines::{i32_at, no_case, number_at, show_bytes, u16_at, u32_at, word_at};
+use crate::lines::{
+    i32_at, no_case, number_at, show_bytes, show_hexadecimal, u16_at, u32_at, word_at,
+};
 use am_base::{
     Bytes, Line, LineList, PacketNo, ProcId, RankId, decimal, put_u16, put_u32, put_u64,
     signed_decimal, take_u16, take_u32, take_u64,
@@ -48,16 +50,6 @@ fn show_put(alloc: Global, out: &mut String, line: &str) -> Result<(), AllocErro
         _ => return no_case(out),
     }
     show_hexadecimal(out, bytes.as_slice())
-}
-
-fn show_hexadecimal(out: &mut String, bytes: &[u8]) -> Result<(), AllocError> {
-    for (at, byte) in bytes.iter().enumerate() {
-        if at > 0 {
-            out.push_str(" ")?;
-        }
-        write!(out, "{byte:02x}")?;
-    }
-    Ok(())
 }
 
 fn show_taken(alloc: Global, out: &mut String, line: &str) -> Result<(), AllocError> {

@@ -4,22 +4,25 @@
 
 ghost use Rattle.std.specs.Prelude.{◌+◌, ◌≤◌, IfOk};
 ghost use Rattle.rank_range.specs.Layout.{heap_start, stack_start};
-ghost use Rattle.isomalloc.specs.Heap.{HasHeap};
+ghost use Rattle.rank_range.specs.Nodes.{HasHeap};
 
 use crate::cases::begins;
 use crate::lines::{no_case, number_at, u32_at, word_at};
-use crate::memory::{rank_of, width_at};
+use crate::memory::{is_within, rank_of, width_at};
 use am_base::RankId;
 use isomalloc::{give, other_bytes_tell_nothing, setup, take};
 use rank_range::{
-    Block, FlatMem, HEAP_START, MOST_BLOCKS, Mem, RANGE_BYTES, STACK_START, Width, base, first_fit,
+    Block, FlatMem, HEAP_START, MOST_BLOCKS, Mem, STACK_START, Width, base, first_fit,
 };
 use std::alloc::{AllocError, Global};
 
 pub fn play(alloc: Global, out: &mut String, group: &[&str]) -> Result<(), AllocError> {
     let mut memory: FlatMem = with_heap(alloc, rank_of(group))?;
     let mut blocks = Vec::new(alloc);
-    play_on(&mut memory, &mut blocks, out, group)
+    let played = play_on(&mut memory, &mut blocks, out, group);
+    drop(memory);
+    drop(blocks);
+    played
 }
 
 /// Fresh memory with a heap.
@@ -77,24 +80,21 @@ fn heap_of<M: Mem>(memory: &M) -> u64 {
     base(memory.rank()) + u64::from(HEAP_START)
 }
 
-/// Takes a block, and notes it: its address, and whether that is the plain first fit.
-fn taken<M: Mem>(
-    memory: &mut M,
-    blocks: &mut Vec<Block>,
-    size: u64,
-) -> Result<(u64, bool), AllocError>
+/// Takes a block: its address, and whether that is the plain first fit.
+fn taken<M: Mem>(memory: &mut M, blocks: &[Block], size: u64) -> (u64, bool)
     requires { HasHeap (M.rank_of memory.old) (M.bytes_of memory.old) }
     ensures { HasHeap (M.rank_of memory.new) (M.bytes_of memory.new) }
 {
-    let plain = first_fit(memory.rank(), blocks.as_slice(), size);
+    let plain = first_fit(memory.rank(), blocks, size);
     let address = take(memory, size);
-    if address != 0 {
-        note(blocks, address, size)?;
-    }
-    Ok((address, address == plain))
+    (address, address == plain)
 }
 
+/// Notes a block that was taken, if one was.
 fn note(blocks: &mut Vec<Block>, address: u64, size: u64) -> Result<(), AllocError> {
+    if address == 0 {
+        return Ok(());
+    }
     let length = size.max(1).min(1 << 20).div_ceil(16) * 16;
     blocks.push(Block { address, length })?;
     Ok(())
@@ -110,7 +110,8 @@ fn show_take<M: Mem>(
     ensures { HasHeap (M.rank_of memory.new) (M.bytes_of memory.new) }
 {
     let heap = heap_of(memory);
-    let (address, is_first_fit) = taken(memory, blocks, size)?;
+    let (address, is_first_fit) = taken(memory, blocks.as_slice(), size);
+    note(blocks, address, size)?;
     if !is_first_fit {
         out.push_str("not as first fit says: ")?;
     }
@@ -136,10 +137,8 @@ fn show_takes<M: Mem>(
     let mut last = 0;
     for _call in 0..count.min(MOST_BLOCKS as u64 + 1) {
         let address = take(memory, size);
-        if address != 0 {
-            note(blocks, address, size)?;
-            last = address;
-        }
+        note(blocks, address, size)?;
+        last = address.max(last);
         if first == 0 {
             first = address;
         }
@@ -206,7 +205,7 @@ fn show_raw<M: Mem>(memory: &M, out: &mut String, line: &str) -> Result<(), Allo
     let (Some(at), Some(width)) = (u32_at(line, 1), width_at(line, 2)) else {
         return no_case(out);
     };
-    if at > RANGE_BYTES - 8 {
+    if !is_within(at, width) {
         return no_case(out);
     }
     write!(out, "{:#x}", memory.raw(at, width))
@@ -230,7 +229,7 @@ fn show_wild<M: Mem>(
             .wrapping_mul(6_364_136_223_846_793_005)
             .wrapping_add(1_442_695_040_888_963_407);
         let is_same = if state & 0x1_0000_0000 == 0 {
-            taken(memory, blocks, (state >> 40) % 200)?.1
+            takes_as_listed(memory, blocks, (state >> 40) % 200)?
         } else {
             let heap = heap_of(memory);
             gives_as_listed(memory, blocks, heap.wrapping_add(16 * ((state >> 40) % 96)))
@@ -244,6 +243,20 @@ fn show_wild<M: Mem>(
         "{same} calls as first fit says, {} blocks live",
         blocks.len()
     )
+}
+
+/// Takes a block, and says whether that is the plain first fit.
+fn takes_as_listed<M: Mem>(
+    memory: &mut M,
+    blocks: &mut Vec<Block>,
+    size: u64,
+) -> Result<bool, AllocError>
+    requires { HasHeap (M.rank_of memory.old) (M.bytes_of memory.old) }
+    ensures { HasHeap (M.rank_of memory.new) (M.bytes_of memory.new) }
+{
+    let (address, is_first_fit) = taken(memory, blocks.as_slice(), size);
+    note(blocks, address, size)?;
+    Ok(is_first_fit)
 }
 
 /// Gives a block back, and says whether that went just where the list has it.

@@ -1,7 +1,7 @@
 //! `lex`: a source on a line, and its tokens or the first byte that offends.
 
 use crate::lines::{show_bytes, unescaped};
-use c_lex::{Headers, LexError, Token, TokenKind, lex};
+use c_lex::{Headers, Keyword, LexError, Mark, NumberType, Token, TokenKind, lex};
 use std::alloc::{AllocError, Global};
 
 pub fn answer(alloc: Global, out: &mut String, line: &str) -> Result<(), AllocError> {
@@ -64,18 +64,30 @@ fn show_headers(out: &mut String, headers: Headers) -> Result<(), AllocError> {
 fn show_kind(out: &mut String, token: &Token) -> Result<(), AllocError> {
     let value = token.value;
     match token.kind {
-        TokenKind::Keyword(keyword) => write!(out, "{keyword:?}"),
-        TokenKind::Name => {
-            out.push_str("$")?;
-            show_bytes(out, token.text.as_slice())
-        }
-        TokenKind::Number(number_type) => write!(out, "{value}:{number_type:?}"),
+        TokenKind::Keyword(keyword) => show_keyword(out, keyword),
+        TokenKind::Name => show_text(out, "$", token.text.as_slice(), ""),
+        TokenKind::Number(number_type) => show_number(out, value, number_type),
         TokenKind::Character => write!(out, "'{value}"),
-        TokenKind::Text => {
-            out.push_str("\"")?;
-            show_bytes(out, token.text.as_slice())?;
-            out.push_str("\"")
-        }
-        TokenKind::Mark(mark) => write!(out, "{mark:?}"),
+        TokenKind::Text => show_text(out, "\"", token.text.as_slice(), "\""),
+        TokenKind::Mark(mark) => show_mark(out, mark),
     }
+}
+
+fn show_keyword(out: &mut String, keyword: Keyword) -> Result<(), AllocError> {
+    write!(out, "{keyword:?}")
+}
+
+fn show_number(out: &mut String, value: u64, number_type: NumberType) -> Result<(), AllocError> {
+    write!(out, "{value}:{number_type:?}")
+}
+
+fn show_mark(out: &mut String, mark: Mark) -> Result<(), AllocError> {
+    write!(out, "{mark:?}")
+}
+
+/// Bytes between two marks.
+fn show_text(out: &mut String, front: &str, bytes: &[u8], back: &str) -> Result<(), AllocError> {
+    out.push_str(front)?;
+    show_bytes(out, bytes)?;
+    out.push_str(back)
 }

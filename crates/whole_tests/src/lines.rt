@@ -63,6 +63,17 @@ pub fn show_bytes(out: &mut String, bytes: &[u8]) -> Result<(), AllocError> {
     Ok(())
 }
 
+/// Bytes as hexadecimal numbers, with a blank between two.
+pub fn show_hexadecimal(out: &mut String, bytes: &[u8]) -> Result<(), AllocError> {
+    for (at, byte) in bytes.iter().enumerate() {
+        if at > 0 {
+            out.push_str(" ")?;
+        }
+        write!(out, "{byte:02x}")?;
+    }
+    Ok(())
+}
+
 /// Where a text is read: what the next byte is.
 #[derive(Clone, Copy)]
 enum Place {

@@ -4,15 +4,18 @@
 
 mod books;
 mod cases;
+mod collectives;
 mod commands;
 mod fields;
 mod heaps;
 mod lexing;
+mod libraries;
 mod lines;
 mod memory;
 mod names;
 mod outside;
 mod parsing;
+mod parts;
 mod plans;
 mod schedules;
 mod stop;
@@ -46,7 +49,7 @@ fn main(rt: HostRuntime) -> ExitCode {
 /// Plays what each word of the command line names.
 fn on_host<R: Env + Files + Print + AllocGlobal>(rt: &R, alloc: Global) -> Result<(), Stop> {
     let Ok(words) = env::args(rt) else {
-        return Err(Stop::Words);
+        return Err(Stop::Arguments);
     };
     for word in words.skip(1) {
         play_named(rt, alloc, word.as_str())?;

@@ -1,14 +1,15 @@
 //! `memory`: calls of a rank's memory, of the rank that the group's first line names (`rank R`). Offsets are from the
 //! rank's first byte: `top T`, `accessible AT N`, `place AT WIDTH`, `load AT WIDTH`, `store AT WIDTH V`, `raw AT WIDTH`,
-//! `put AT WIDTH V`, `page P`, `clean`; `address A N` takes an address.
+//! `put AT WIDTH V`, `page P`, `clean`, `view AT N`, `write AT TEXT`, `copy TO FROM N`, `fill AT N BYTE`, `span AT N`; `address
+//! A N` takes an address.
 
-ghost use Rattle.std.specs.Prelude.{◌≤◌, IfSome};
-ghost use Rattle.std.specs.Prelude.{◌+◌};
-ghost use Rattle.rank_range.specs.Layout.{range_bytes, stack_start};
+ghost use Rattle.std.specs.Prelude.{◌≡◌, ◌+◌, ◌≤◌, true};
+ghost use Rattle.rank_range.specs.Layout.{range_bytes};
 ghost use Rattle.rank_range.specs.Numbers.{bytes_in};
 
 use crate::cases::begins;
 use crate::lines::{no_case, number_at, u16_at, u32_at, word_at};
+use crate::parts;
 use am_base::RankId;
 use rank_range::{
     CONTROL_START, DESCRIPTORS_START, FlatMem, GLOBALS_START, HEAP_START, Mem, PAGE_BYTES, PAGES,
@@ -18,9 +19,20 @@ use std::alloc::{AllocError, Global};
 
 pub fn play(alloc: Global, out: &mut String, group: &[&str]) -> Result<(), AllocError> {
     let mut memory = FlatMem::fresh(alloc, rank_of(group))?;
+    let played = play_on(alloc, &mut memory, out, group);
+    drop(memory);
+    played
+}
+
+fn play_on(
+    alloc: Global,
+    memory: &mut FlatMem,
+    out: &mut String,
+    group: &[&str],
+) -> Result<(), AllocError> {
     for line in group {
         if begins(out, line)? {
-            answer(&mut memory, out, line)?;
+            answer(alloc, memory, out, line)?;
             out.push_str("\n")?;
         }
     }
@@ -37,7 +49,12 @@ pub fn rank_of(group: &[&str]) -> RankId {
     RankId(0)
 }
 
-fn answer(memory: &mut FlatMem, out: &mut String, line: &str) -> Result<(), AllocError> {
+fn answer(
+    alloc: Global,
+    memory: &mut FlatMem,
+    out: &mut String,
+    line: &str,
+) -> Result<(), AllocError> {
     match word_at(line, 0) {
         "rank" => write!(
             out,
@@ -55,6 +72,7 @@ fn answer(memory: &mut FlatMem, out: &mut String, line: &str) -> Result<(), Allo
             out.push_str("cleaned")
         }
         "accessible" => show_accessible(memory, out, line),
+        "view" | "write" | "copy" | "fill" | "span" => parts::answer(alloc, memory, out, line),
         _ => answer_number(memory, out, line),
     }
 }
@@ -170,7 +188,9 @@ fn answer_number(memory: &mut FlatMem, out: &mut String, line: &str) -> Result<(
 }
 
 /// Whether so many bytes lie in the range there.
-fn is_within(at: u32, width: Width) -> bool {
+pub fn is_within(at: u32, width: Width) -> bool
+    ensures { result ≡ true → at + bytes_in width ≤ range_bytes }
+{
     u64::from(at) + width.bytes() as u64 <= u64::from(RANGE_BYTES)
 }
 

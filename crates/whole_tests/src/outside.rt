@@ -25,9 +25,20 @@ pub fn play(alloc: Global, out: &mut String, group: &[&str]) -> Result<(), Alloc
         sink: MemSink::new(alloc),
         sure_sink: SureSink::new(alloc),
     };
+    let played = play_on(alloc, &mut outside, out, group);
+    drop(outside);
+    played
+}
+
+fn play_on(
+    alloc: Global,
+    outside: &mut Outside,
+    out: &mut String,
+    group: &[&str],
+) -> Result<(), AllocError> {
     for line in group {
         if begins(out, line)? {
-            answer(alloc, &mut outside, out, line)?;
+            answer(alloc, outside, out, line)?;
             out.push_str("\n")?;
         }
     }
@@ -136,21 +147,28 @@ pub fn show_host<R: std::rt::Files>(
     alloc: Global,
     out: &mut String,
 ) -> Result<(), AllocError> {
-    let mut files = FsFiles::new(rt);
-    let mut sink = FileSink::new(rt, "written");
-    let mut astray = FileSink::new(rt, "no/such/folder");
     out.push_str("# The host: a file that is written in two pieces, and read back\n")?;
-    for piece in ["one ", "two"] {
-        let is_said = said(&mut sink, piece.as_bytes())?;
-        let is_astray = !said(&mut astray, piece.as_bytes())?;
-        write!(out, "    said {is_said}, astray {is_astray}\n")?;
-    }
+    show_written(rt, out, "written")?;
+    show_written(rt, out, "no/such/folder")?;
+    show_read(rt, alloc, out)?;
+    out.push_str("\n")
+}
+
+fn show_written<R: std::rt::Files>(rt: &R, out: &mut String, name: &str) -> Result<(), AllocError> {
+    let mut sink = FileSink::new(rt, name);
+    let first = said(&mut sink, b"one ");
+    let second = said(&mut sink, b"two");
+    let faults = sink.faults();
+    drop(sink);
     write!(
         out,
-        "    faults {}, astray {}\n",
-        sink.faults(),
-        astray.faults()
-    )?;
+        "    said {}, {} with {faults} faults\n",
+        first?, second?
+    )
+}
+
+fn show_read<R: std::rt::Files>(rt: &R, alloc: Global, out: &mut String) -> Result<(), AllocError> {
+    let mut files = FsFiles::new(rt);
     for (name, limit) in [
         ("written", 7),
         ("written", u64::MAX),
@@ -161,5 +179,5 @@ pub fn show_host<R: std::rt::Files>(
         show_loaded(alloc, out, &mut files, name, limit)?;
         write!(out, " with {} faults\n", files.faults())?;
     }
-    out.push_str("\n")
+    Ok(())
 }

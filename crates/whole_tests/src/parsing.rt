@@ -100,14 +100,21 @@ fn refusal(alloc: Global, tokens: &[Token]) -> Result<Option<ParseError>, AllocE
     }
 }
 
+/// The number of the token that isn't expected, if there is one.
+fn unexpected(alloc: Global, tokens: &[Token]) -> Result<Option<u32>, AllocError> {
+    match refusal(alloc, tokens)? {
+        Some(ParseError::Unexpected { token }) => Ok(Some(token)),
+        Some(_) | None => Ok(None),
+    }
+}
+
 /// The number of the token that isn't expected behind each beginning but the empty one.
 fn show_beginnings(alloc: Global, out: &mut String, tokens: &[Token]) -> Result<(), AllocError> {
     out.push_str("unexpected")?;
     for (at, _token) in tokens.iter().enumerate() {
-        match refusal(alloc, &tokens[..at + 1])? {
+        match unexpected(alloc, &tokens[..at + 1])? {
+            Some(token) => write!(out, " {token}")?,
             None => out.push_str(" none")?,
-            Some(ParseError::Unexpected { token }) => write!(out, " {token}")?,
-            Some(error) => write!(out, " {error:?}")?,
         }
     }
     Ok(())

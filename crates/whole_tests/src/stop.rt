@@ -6,6 +6,8 @@ use thiserror::Error;
 
 #[derive(Debug, Drop, Error)]
 pub enum Stop {
+    #[error("the words can't be read")]
+    Arguments,
     #[error("no such word")]
     Words,
     #[error("a data file can't be read")]
@@ -20,7 +22,7 @@ impl Stop {
     /// The exit status.
     pub fn status(&self) -> u8 {
         match self {
-            Stop::Words => 1,
+            Stop::Arguments | Stop::Words => 1,
             Stop::File => 2,
             Stop::Output => 10,
             Stop::Memory => 11,

@@ -7,8 +7,8 @@ use crate::books::{context, message_of};
 use crate::lines::{i32_at, no_case, number_at, show_bytes, u8_at, u16_at, u32_at, word_at};
 use am_base::{Bytes, RankId};
 use mpi_types::{
-    Ctx, DEEPEST, Datatype, Entry, EntryRun, History, Level, Operation, Posted, Sequence, Status,
-    accepts, append_header, append_runs,
+    Ctx, DEEPEST, Datatype, Entry, EntryRun, History, Level, Message, Operation, Posted, Sequence,
+    Status, accepts, append_header, append_runs,
 };
 use std::alloc::{AllocError, Global};
 
@@ -109,24 +109,47 @@ fn show_accepts(alloc: Global, out: &mut String, line: &str) -> Result<(), Alloc
     let (Some(source), Some(tag)) = (i32_at(line, 1), i32_at(line, 2)) else {
         return no_case(out);
     };
-    let message = message_of(alloc, 0, 2, 7, b"body")?;
-    let world = Ctx::world(alloc);
+    let in_world = is_accepted_in_world(alloc, source, tag)?;
+    let in_duplicate = is_accepted_in_duplicate(alloc, source, tag)?;
     write!(
         out,
-        "in the world {}",
-        accepts(&world, source, tag, &message)
-    )?;
+        "in the world {in_world}, in a duplicate {in_duplicate}"
+    )
+}
+
+fn is_accepted_in_world(alloc: Global, source: i32, tag: i32) -> Result<bool, AllocError> {
+    let message = message_of(alloc, 0, 2, 7, b"body")?;
+    let world = Ctx::world(alloc);
+    Ok(accepts(&world, source, tag, &message))
+}
+
+fn is_accepted_in_duplicate(alloc: Global, source: i32, tag: i32) -> Result<bool, AllocError> {
+    let message = message_of(alloc, 0, 2, 7, b"body")?;
+    let copy = copied_message(alloc, &message);
+    drop(message);
+    let message = copy?;
+    let receive = copied_receive(alloc, source, tag)?;
+    Ok(receive.accepts(&message))
+}
+
+fn copied_message(alloc: Global, message: &Message) -> Result<Message, AllocError> {
+    message.copied(alloc)
+}
+
+/// A copy of a receive in a duplicate of the world.
+fn copied_receive(alloc: Global, source: i32, tag: i32) -> Result<Posted, AllocError> {
+    let ctx = context(alloc, 1)?;
     let receive = Posted {
         request: 1,
-        ctx: context(alloc, 1)?,
+        ctx,
         source,
         tag,
         room: 4,
         buffer: 0,
     };
-    let receive = receive.copied(alloc)?;
-    let message = message.copied(alloc)?;
-    write!(out, ", in a duplicate {}", receive.accepts(&message))
+    let copy = receive.copied(alloc);
+    drop(receive);
+    copy
 }
 
 /// A context so many levels deep, and whether it is that of its copy and of the world.
@@ -155,15 +178,23 @@ fn show_depth(alloc: Global, out: &mut String, depth: Option<u64>) -> Result<(),
 }
 
 fn show_sequence(alloc: Global, out: &mut String, line: &str) -> Result<(), AllocError> {
-    let mut sequence = Sequence::new(alloc);
-    write!(out, "empty {}", sequence.is_empty())?;
-    for word in line.split(' ').skip(1) {
-        sequence.push(word.len())?;
-    }
-    let sequence = Sequence::from_vec(sequence.into_vec());
-    write!(out, ", then {} lengths:", sequence.len())?;
+    let sequence = lengths_of(alloc, line)?;
+    write!(
+        out,
+        "empty {}, {} lengths:",
+        sequence.is_empty(),
+        sequence.len()
+    )?;
     for length in sequence.as_slice() {
         write!(out, " {length}")?;
     }
     Ok(())
+}
+
+fn lengths_of(alloc: Global, line: &str) -> Result<Sequence<usize>, AllocError> {
+    let mut sequence = Sequence::new(alloc);
+    for word in line.split(' ').skip(1) {
+        sequence.push(word.len())?;
+    }
+    Ok(Sequence::from_vec(sequence.into_vec()))
 }

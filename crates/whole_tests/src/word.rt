@@ -2,7 +2,12 @@
 
 use am_base::puts_are_taken_back;
 use isomalloc::other_bytes_tell_nothing;
-use rank_range::{first_fit_is_one, spelled_heap_is_one, stored_numbers_are_loaded};
+use mpi_types::{acceptance_is_tested, insertion_is_one_place, splits_are_ordered};
+use rank_range::access::texts_end_at_a_zero;
+use rank_range::{
+    areas_are_in_the_range, computed_fit_is_first, first_fit_is_one, lines_are_the_cut,
+    spelled_heap_is_one, stored_numbers_are_loaded, words_are_extended,
+};
 use run_words::{one_meaning, ranks_are_few, ticks_are_bounded};
 use schedule::{printed_is_read, turns_suffice};
 
@@ -19,11 +24,13 @@ pub enum Word {
     Plans,
     Memory,
     Heap,
+    Library,
     Match,
+    Collect,
 }
 
 /// The layers in the order in which `all` plays them.
-pub const ALL: [Word; 11] = [
+pub const ALL: [Word; 13] = [
     Word::Fields,
     Word::Names,
     Word::Files,
@@ -34,7 +41,9 @@ pub const ALL: [Word; 11] = [
     Word::Plans,
     Word::Memory,
     Word::Heap,
+    Word::Library,
     Word::Match,
+    Word::Collect,
 ];
 
 impl Word {
@@ -59,7 +68,9 @@ impl Word {
             Word::Plans => "plans",
             Word::Memory => "memory",
             Word::Heap => "heap",
+            Word::Library => "library",
             Word::Match => "match",
+            Word::Collect => "collect",
         }
     }
 
@@ -76,7 +87,9 @@ impl Word {
             Word::Plans => "plans.txt",
             Word::Memory => "memory.txt",
             Word::Heap => "heap.txt",
+            Word::Library => "library.txt",
             Word::Match => "match.txt",
+            Word::Collect => "collect.txt",
         }
     }
 
@@ -101,13 +114,25 @@ impl Word {
                 printed_is_read();
                 turns_suffice();
             }
-            Word::Memory => stored_numbers_are_loaded(),
+            Word::Memory => {
+                stored_numbers_are_loaded();
+                areas_are_in_the_range();
+                texts_end_at_a_zero();
+                words_are_extended();
+                lines_are_the_cut();
+            }
             Word::Heap => {
                 first_fit_is_one();
+                computed_fit_is_first();
                 spelled_heap_is_one();
                 other_bytes_tell_nothing();
             }
-            Word::Names | Word::Files | Word::Plans | Word::Match => {}
+            Word::Match => acceptance_is_tested(),
+            Word::Collect => {
+                splits_are_ordered();
+                insertion_is_one_place();
+            }
+            Word::Names | Word::Files | Word::Plans | Word::Library => {}
         }
     }
 }

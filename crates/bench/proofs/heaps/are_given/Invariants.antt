@@ -1,4 +1,4 @@
-use Rattle.isomalloc.specs.Heap.{HasHeap}
+use Rattle.rank_range.specs.Nodes.{HasHeap}
 use Rattle.bench.proofs.heaps.are_given.Given as goal
 
 abbrev pub invariant-loop-turn : goal.invariant-loop-turn

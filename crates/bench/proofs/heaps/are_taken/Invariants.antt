@@ -1,4 +1,4 @@
-use Rattle.isomalloc.specs.Heap.{HasHeap}
+use Rattle.rank_range.specs.Nodes.{HasHeap}
 use Rattle.bench.proofs.heaps.are_taken.Given as goal
 
 abbrev pub invariant-loop-block : goal.invariant-loop-block

@@ -1,4 +1,4 @@
-use Rattle.isomalloc.proofs.Bytes.{keeps_both}
+use Rattle.rank_range.proofs.ChangeLemmas.{keeps_both}
 use Rattle.isomalloc.proofs.Changes.{nodes_stay, stays_nodes, stays_header, stays_both}
 use Rattle.isomalloc.proofs.edits.fill.Goals as goal
 

@@ -1,4 +1,4 @@
-use Rattle.isomalloc.proofs.Bytes.{keeps_both}
+use Rattle.rank_range.proofs.ChangeLemmas.{keeps_both}
 use Rattle.isomalloc.proofs.Changes.{split_done, stays_four}
 use Rattle.isomalloc.proofs.edits.split.Goals as goal
 

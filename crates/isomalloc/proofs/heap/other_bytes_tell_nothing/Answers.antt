@@ -1,5 +1,5 @@
-use Rattle.isomalloc.proofs.Top.{others_tell_nothing}
+use Rattle.isomalloc.proofs.Top.{others_keep}
 use Rattle.isomalloc.proofs.heap.other_bytes_tell_nothing.Goals as goal
 
 pub returns : goal.returns
-returns c = others_tell_nothing
+returns c = others_keep

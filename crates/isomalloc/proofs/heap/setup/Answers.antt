@@ -1,31 +1,30 @@
 use Rattle.std.proofs.Common.{◌∙◌}
-use Rattle.isomalloc.proofs.Fresh.{written_none, written_more, fresh_spells, fresh_done}
+use Rattle.rank_range.proofs.ChangeLemmas.{keeps_both}
 use Rattle.isomalloc.proofs.Top.{some_heap}
+use Rattle.isomalloc.proofs.Seen.{cleared, others_stay, none_live}
 use Rattle.isomalloc.proofs.heap.setup.Goals as goal
 
-pub loop-number-init : goal.loop-number-init
-loop-number-init g c =
-    written_none (g.M.Mem.rank_of c.args.memory.now) (g.M.Mem.top_of c.args.memory.now) (g.M.Mem.bytes_of c.args.memory.now)
-    (g.M.Mem.marks_of c.args.memory.now) c.requires
-
-pub loop-number-preserved : goal.loop-number-preserved
-loop-number-preserved g c =
-    written_more _ _ _ _ _ _ (g.M.Mem.bytes_of c.args.memory.now) (g.M.Mem.bytes_of c.loop-number.memory) (g.M.Mem.bytes_of c.write_node.new.memory)
-    _ _ _ c.loop-number.number c.unused_before.result c.unused_before.ensures c.loop-number-test.true c.loop-number.invariant
-    c.write_node.ensures.nodes c.write_node.ensures.beside c.write_node.ensures.kept
+pub write_fresh-requires : goal.write_fresh-requires
+write_fresh-requires g c =
+    cleared (g.M.Mem.bytes_of c.args.memory.now) (g.M.Mem.bytes_of c.clear.new.memory) (g.M.Mem.bytes_of c.clear-2.new.memory)
+    c.clear.ensures.zero c.clear-2.ensures.beside c.clear-2.ensures.zero
+    (c.clear-2.ensures.kept.whole ∙ c.clear.ensures.kept.whole ∙ c.top-top.ensures.range.whole)
 
 pub returns-clause-heap : goal.returns-clause-heap
 returns-clause-heap g c =
-    some_heap (g.M.Mem.rank_of c.args.memory.now) _ (g.M.Mem.bytes_of c.write_header.new.memory) _
-    (c.write_header.ensures.kept.owner ∙ c.write_node-2.ensures.kept.owner ∙ c.loop-number.invariant.kept.owner)
-    (fresh_spells (g.M.Mem.rank_of c.args.memory.now) (g.M.Mem.bytes_of c.write_header.new.memory)
-    (fresh_done _ _ _ _ (g.M.Mem.bytes_of c.args.memory.now) (g.M.Mem.bytes_of c.loop-number.memory) (g.M.Mem.bytes_of c.write_node-2.new.memory)
-    (g.M.Mem.bytes_of c.write_header.new.memory) _ _ c.loop-number.number c.requires c.loop-number-test.false c.loop-number.invariant
-    c.write_node-2.ensures.nodes c.write_node-2.ensures.beside c.write_header.ensures.beside c.write_header.ensures.header))
+    some_heap (g.M.Mem.rank_of c.clear-2.new.memory) _ (g.M.Mem.bytes_of c.write_fresh.new.memory) _ c.write_fresh.ensures.kept.owner c.write_fresh.ensures.spelled
 
-pub returns-clause-spelled : goal.returns-clause-spelled
-returns-clause-spelled g c =
-    fresh_spells (g.M.Mem.rank_of c.args.memory.now) (g.M.Mem.bytes_of c.write_header.new.memory)
-    (fresh_done _ _ _ _ (g.M.Mem.bytes_of c.args.memory.now) (g.M.Mem.bytes_of c.loop-number.memory) (g.M.Mem.bytes_of c.write_node-2.new.memory)
-    (g.M.Mem.bytes_of c.write_header.new.memory) _ _ c.loop-number.number c.requires c.loop-number-test.false c.loop-number.invariant
-    c.write_node-2.ensures.nodes c.write_node-2.ensures.beside c.write_header.ensures.beside c.write_header.ensures.header)
+pub returns-clause-none : goal.returns-clause-none
+returns-clause-none g c =
+    none_live (g.M.Mem.rank_of c.clear-2.new.memory) _ (g.M.Mem.bytes_of c.write_fresh.new.memory) c.write_fresh.ensures.kept.owner c.write_fresh.ensures.spelled
+
+pub returns-clause-stays : goal.returns-clause-stays
+returns-clause-stays g c =
+    others_stay (g.M.Mem.bytes_of c.args.memory.now) (g.M.Mem.bytes_of c.clear.new.memory) (g.M.Mem.bytes_of c.clear-2.new.memory)
+    (g.M.Mem.bytes_of c.write_fresh.new.memory) c.clear.ensures.beside c.clear-2.ensures.beside c.write_fresh.ensures.stays
+
+pub returns-clause-kept : goal.returns-clause-kept
+returns-clause-kept g c =
+    keeps_both _ _ _ _ _ _ _ (g.M.Mem.bytes_of c.clear-2.new.memory) _ _ (g.M.Mem.marks_of c.clear-2.new.memory) _
+    (keeps_both _ _ _ _ _ _ _ (g.M.Mem.bytes_of c.clear.new.memory) _ _ (g.M.Mem.marks_of c.clear.new.memory) _ c.clear.ensures.kept c.clear-2.ensures.kept)
+    c.write_fresh.ensures.kept

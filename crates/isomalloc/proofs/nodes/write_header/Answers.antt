@@ -1,5 +1,6 @@
 use Rattle.std.proofs.Common.{arith}
-use Rattle.isomalloc.proofs.Bytes.{IsPut, header_is, header_beside, keeps_one, keeps_both, put_length}
+use Rattle.rank_range.proofs.ChangeLemmas.{keeps_one, keeps_both}
+use Rattle.isomalloc.proofs.Bytes.{IsPut, header_is, header_beside, put_length}
 use Rattle.isomalloc.proofs.nodes.write_header.Given.{Over}
 use Rattle.isomalloc.proofs.nodes.write_header.Goals as goal
 

@@ -1,5 +1,6 @@
 use Rattle.std.proofs.Common.{◌+◌, arith}
-use Rattle.isomalloc.proofs.Bytes.{IsPut, FivePut, five_nodes, five_beside, beside_more, keeps_one, keeps_both, put_length}
+use Rattle.rank_range.proofs.ChangeLemmas.{beside_more, keeps_one, keeps_both}
+use Rattle.isomalloc.proofs.Bytes.{IsPut, FivePut, five_nodes, five_beside, put_length}
 use Rattle.isomalloc.proofs.nodes.write_node.Given.{Over}
 use Rattle.isomalloc.proofs.nodes.write_node.Goals as goal
 

@@ -1,5 +1,5 @@
 use Rattle.std.proofs.Common.{◌≤◌, ◌+◌, ◌*◌, arith}
-use Rattle.isomalloc.proofs.Bytes.{keeps_one}
+use Rattle.rank_range.proofs.ChangeLemmas.{keeps_one}
 use Rattle.isomalloc.proofs.Zeros.{cleared_none, cleared_more}
 use Rattle.isomalloc.proofs.zero.clear.Goals as goal
 

@@ -1,4 +1,4 @@
-use Rattle.isomalloc.specs.Heap.{HasHeap}
+use Rattle.rank_range.specs.Nodes.{HasHeap}
 use Rattle.whole_tests.proofs.heaps.play_on.Given as goal
 
 abbrev pub invariant-loop-line : goal.invariant-loop-line

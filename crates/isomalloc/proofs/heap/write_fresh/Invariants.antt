@@ -1,5 +1,5 @@
 use Rattle.isomalloc.proofs.Fresh.{Written}
-use Rattle.isomalloc.proofs.heap.setup.Given as goal
+use Rattle.isomalloc.proofs.heap.write_fresh.Given as goal
 
 -- the unused nodes so far
 abbrev pub invariant-loop-number : goal.invariant-loop-number

@@ -1,0 +1,9 @@
+pub mod Tree
+pub mod Held
+pub mod Sends
+pub mod Sweeps
+pub mod Weights
+pub mod Slices
+pub mod Stages
+pub mod System
+pub mod Underway
