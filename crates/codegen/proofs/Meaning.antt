@@ -22,7 +22,7 @@ use Rattle.c_types.specs.declared.program.TokenAt.{TokenAt}
 use Rattle.c_types.specs.Need.{Pending, pending_of, IsPastLimit, IsSimple}
 use Rattle.c_model.specs.Outcome.{Rest, Here, tick}
 use Rattle.c_model.specs.Run.{Calling}
-use Rattle.c_model.specs.Statements.{called, entered, place_in, body_of, parameters_of, parameter_count, main_words, statements, exits_of, left_frame, run_of, main_run}
+use Rattle.c_model.specs.Statements.{called, entered, place_in, body_of, body_or_none, parameters_of, parameter_count, main_words, statements, exits_of, left_frame, run_of, main_run}
 use Rattle.c_model.specs.Means.{Means, opening}
 use Rattle.codegen.specs.Layout.{Part, nothing, one, ◌then◌}
 use Rattle.codegen.specs.Statements.{Targets, in_order_part, sizes_of, pieces_of, end_targets, body_part, body_size, function_part, function_size, functions_part, entry_at, entries_from, offset_in, program_part, IsCodeOf}
@@ -43,12 +43,6 @@ contained : {A : Type 0} (xs : List A) (k : ℕ) (x : A) → slice_get xs k ≡ 
 contained [] k x e = absurd (cc (e))
 contained (y ∷ xs) zero x e = (0, omega arith, let same : y ≡ x = cc (e) in same)
 contained (y ∷ xs) (suc k) x e = let c = contained xs k x e in (suc c.0, let lt = c.1 in omega (arith, lt), c.2)
-
--- the function whose body it is
-with_body : (o : Option Function) (body : Body) → (elim o [ None ↦ None | Some function ↦ function.body ]) ≡ Some body
-    → (function : Function) × (o ≡ Some function) × (function.body ≡ Some body)
-with_body None body e = absurd (cc (e))
-with_body (Some function) body e = (function, refl, e)
 
 fits_by : (limit n : ℕ) → ((limit < n) → ⊥) → ((nat_le n limit ≡ true) × (n ≤ limit)) ⊎ ((nat_le n limit ≡ false) × (limit < n)) → n ≤ limit
 fits_by limit n not_past (inl x) = x.1
@@ -97,9 +91,12 @@ module _ (object : ℕ → ℕ) where
   found code [] place end number f e sp = absurd (cc (e))
   found code (g ∷ fs) place end zero f e sp =
       let same : g ≡ f = cc (e) in
-      let parts = spans_split (Stands code) place end (function_size object g) (function_part object g) (functions_part object fs) (sized_function g) sp in
-      (place, ap (λ h. Some (entry_at place h.body)) same, place + function_size object g,
-      subst (λ h. Spans (Stands code) place (function_part object h) (place + function_size object g)) same parts.0)
+      let parts = spans_split (Stands code) place end (function_size object g) (function_part object g) (functions_part object fs) (sized_function g) sp in (
+        place,
+        ap (λ h. Some (entry_at place h.body)) same,
+        place + function_size object g,
+        subst (λ h. Spans (Stands code) place (function_part object h) (place + function_size object g)) same parts.0,
+      )
   found code (g ∷ fs) place end (suc number) f e sp =
       let parts = spans_split (Stands code) place end (function_size object g) (function_part object g) (functions_part object fs) (sized_function g) sp in
       found code fs (place + function_size object g) end number f e parts.1
@@ -141,7 +138,10 @@ stops_main code program segment main main_is code_is covered simple rank n answe
     let object = offset_in segment in
     let m = opened segment rank in
     let words = main_words m (parameter_count program main.function) in
-    let f = with_body (slice_get program.functions main.function) body covered.body_is in
+    let f : (function : Function) × (slice_get program.functions main.function ≡ Some function) × (function.body ≡ Some body) =
+    (covered.function, covered.function_is, covered.body_is) in
+    let defined : body_of program main.function ≡ Some body =
+    ap (λ o. elim o [ None ↦ None | Some function ↦ Some (body_or_none function.body) ]) f.1 ∙ ap (λ b. Some (body_or_none b)) f.2 in
     let sp = spans_all code (program_part program segment main) code_is.instrs in
     let first = spans_first (Stands code) 0 _ (instr.Call main.function (parameter_count program main.function)) (functions_part object program.functions) sp in
     let there = found object code program.functions 1 _ main.function f.0 f.1 first.1 in
@@ -149,7 +149,7 @@ stops_main code program segment main main_is code_is covered simple rank n answe
     let entry_is : slice_get code.functions main.function ≡ Some entry =
     ap (λ fs. slice_get fs main.function) code_is.functions ∙ there.1 ∙ ap (λ b. Some (entry_at there.0 b)) f.2 in
     let count : parameter_count program main.function ≡ length body.parameters =
-    ap (λ o. elim o [ None ↦ 0 | Some b ↦ length b.parameters ]) covered.body_is in
+    ap (λ o. elim o [ None ↦ 0 | Some b ↦ length b.parameters ]) defined in
     let few : parameter_count program main.function ≤ 2 = let a = covered.few in omega (arith, count, a) in
     let long : length words ≡ parameter_count program main.function = words_count 1 (address_of m globals_start) (parameter_count program main.function) few in
     let call_is : slice_get code.instrs 0 ≡ Some (instr.Call main.function (length words)) = first.0 ∙ ap (λ k. Some (instr.Call main.function k)) (sym long) in
@@ -166,7 +166,7 @@ stops_main code program segment main main_is code_is covered simple rank n answe
     let same : onto words [] ≡ reverse words = onto_is words [] ∙ append-nil (reverse words) in
     let R = λ (o : Option Body). tick (entered o (record { calling = calling; object = place_in segment }) words here ended) n answers (nothing_done m) in
     let done = subst (λ o. Stops code (at beginning 0 o n answers (nothing_done m)) (R (Some body)).stop (R (Some body)).done) same turn in
-    subst (λ o. Stops code (at beginning 0 (reverse words) n answers (nothing_done m)) (R o).stop (R o).done) (sym covered.body_is) done
+    subst (λ o. Stops code (at beginning 0 (reverse words) n answers (nothing_done m)) (R o).stop (R o).done) (sym defined) done
 
 -- code that is laid out as a program's means the program
 pub means_program : (code : Code) (program : Program) (segment : Segment) (main : Main) → program.main ≡ Some main → IsCodeOf code program segment main

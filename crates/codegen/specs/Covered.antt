@@ -1,5 +1,5 @@
 -- The programs whose code is shown to mean them: `main` calls no function of the program, and has no `switch`.
-use Rattle.std.specs.Prelude.{ℕ, ◌≡◌, ◌≤◌, ◌&&◌, Bool, true, false, List, [], ◌∷◌, length, map, Option, None, Some}
+use Rattle.std.specs.Prelude.{ℕ, ◌≡◌, ◌≤◌, ◌&&◌, Bool, true, false, List, [], ◌∷◌, length, map, Option, None, Some, slice_get}
 use Rattle.c_types.specs.declared.expression.Operand.TheOpen.{Operand-F, Step-F, Expr-F}
 use Rattle.c_types.specs.declared.expression.Expr.{Expr, fold-Expr}
 use Rattle.c_types.specs.declared.expression.FullExpr.{FullExpr}
@@ -10,7 +10,7 @@ use Rattle.c_types.specs.declared.statement.Store.{Store}
 use Rattle.c_types.specs.declared.program.Program.{Program}
 use Rattle.c_types.specs.declared.program.Main.{Main}
 use Rattle.c_types.specs.declared.program.Body.{Body}
-use Rattle.c_model.specs.Statements.{body_of}
+use Rattle.c_types.specs.declared.program.Function.{Function}
 
 -- whether all are
 abbrev pub all_true : List Bool → Bool
@@ -96,7 +96,9 @@ stmt_covered = fold-Stmt Bool stmt_covered_step
 
 -- `main` is defined, with at most the two parameters that it may have, and its statements are covered.
 pub record IsCovered (program : Program) (main : Main) : Type 0 where
+  pub function : Function
+  pub function_is : slice_get program.functions main.function ≡ Some function
   pub body : Body
-  pub body_is : body_of program main.function ≡ Some body
+  pub body_is : function.body ≡ Some body
   pub few : length body.parameters ≤ 2
   pub covered : all_true (map stmt_covered body.stmts) ≡ true
