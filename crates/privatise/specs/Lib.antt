@@ -1,0 +1,4 @@
+pub mod First
+pub mod Defined
+pub mod Addresses
+pub mod Answers
