@@ -1,1 +1,2 @@
 mod EvaluatedLemmas
+mod StaticLemmas

@@ -1,7 +1,7 @@
 -- The values of constant expressions (C11, 6.6). They have numbers, characters, enumerators and constants of headers, sizes of
 -- types and expressions, casts to whole types, and operators without assignment, call or comma. What traps where it is evaluated
 -- has no value.
-use Rattle.std.specs.Prelude.{ℕ, ◌==◌, nat_eq, not, if◌then◌else◌, List, [], ◌∷◌, map, Option, Some, None, Result, Ok, Err, ◌≡◌}
+use Rattle.std.specs.Prelude.{ℕ, ◌==◌, nat_eq, not, if◌then◌else◌, List, [], ◌∷◌, map, Option, Some, None, Result, Ok, Err}
 use Rattle.std.specs.Map.{lookup}
 use Rattle.am_base.specs.declared.traps.TrapCause.{TrapCause}
 use Rattle.rank_range.specs.declared.kinds.Kind.{Kind}
@@ -12,7 +12,6 @@ use Rattle.rank_range.specs.declared.operators.Binary.{Binary}
 use Rattle.rank_range.specs.declared.operators.Binary.TheVariants as machine
 use Rattle.rank_range.specs.Kinds.{promoted, usual, extended, convert}
 use Rattle.rank_range.specs.Operators.{truth, operate_one, operate}
-use Rattle.c_ast.specs.declared.words.Name.{Name}
 use Rattle.c_ast.specs.declared.words.NumberType.{NumberType}
 use Rattle.c_ast.specs.declared.words.NumberType.TheVariants as literal
 use Rattle.c_ast.specs.declared.words.PrefixOp.{PrefixOp}

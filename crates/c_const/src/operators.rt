@@ -4,7 +4,7 @@
 ghost use Rattle.std.specs.Prelude.{◌≡◌};
 ghost use Rattle.rank_range.specs.Kinds.{promoted};
 ghost use Rattle.c_const.specs.Constants as constants;
-ghost use Rattle.c_const.specs.Constants.{prefixed, operated, common_word, arithmetic, compared, shifted, and_word, or_word, truth_word, falsity_word, joined, chosen, chosen_word, converted_word, as_kind, changed, test_of, cast_to, prefixed_part};
+ghost use Rattle.c_const.specs.Constants.{prefixed, operated, common_word, arithmetic, compared, shifted, and_word, or_word, truth_word, falsity_word, joined, chosen, chosen_word, converted_word, as_kind, changed, changed_word, test_of, cast_to, prefixed_part};
 
 use crate::Evaluated;
 use c_ast::{BinaryOp, NumberType, PrefixOp};
@@ -76,7 +76,7 @@ pub fn conditional(
     }
 }
 
-fn converted_word(from: Kind, to: Kind, word: Option<u64>) -> Option<u64>
+pub(crate) fn converted_word(from: Kind, to: Kind, word: Option<u64>) -> Option<u64>
     ensures { result ≡ converted_word from to word }
 {
     match word {
@@ -115,13 +115,18 @@ fn prefixed(op: PrefixOp, value: Evaluated) -> Option<Evaluated>
 fn changed(op: Unary, value: Evaluated) -> Evaluated
     ensures { result ≡ changed op value }
 {
-    let word = match value.word {
-        Some(word) => Some(operate_one(op, value.kind, word)),
-        None => None,
-    };
     Evaluated {
         kind: value.kind,
-        word,
+        word: changed_word(op, value.kind, value.word),
+    }
+}
+
+pub(crate) fn changed_word(op: Unary, kind: Kind, word: Option<u64>) -> Option<u64>
+    ensures { result ≡ changed_word op kind word }
+{
+    match word {
+        Some(word) => Some(operate_one(op, kind, word)),
+        None => None,
     }
 }
 
@@ -145,7 +150,7 @@ fn truth_word(word: Option<u64>) -> Option<u64>
     }
 }
 
-fn falsity_word(word: Option<u64>) -> Option<u64>
+pub(crate) fn falsity_word(word: Option<u64>) -> Option<u64>
     ensures { result ≡ falsity_word word }
 {
     match word {
@@ -181,7 +186,7 @@ fn joined(op: BinaryOp, a: Evaluated, b: Evaluated) -> Evaluated
 }
 
 /// What an operator gives, where both operands have a value and it doesn't trap.
-fn operated(op: Binary, kind: Kind, a: Option<u64>, b: Option<u64>) -> Option<u64>
+pub(crate) fn operated(op: Binary, kind: Kind, a: Option<u64>, b: Option<u64>) -> Option<u64>
     ensures { result ≡ operated op kind a b }
 {
     match (a, b) {
@@ -236,7 +241,7 @@ fn shifted(op: Binary, a: Evaluated, b: Evaluated) -> Evaluated
     }
 }
 
-fn and_word(a: Option<u64>, b: Option<u64>) -> Option<u64>
+pub(crate) fn and_word(a: Option<u64>, b: Option<u64>) -> Option<u64>
     ensures { result ≡ and_word a b }
 {
     match a {
@@ -246,7 +251,7 @@ fn and_word(a: Option<u64>, b: Option<u64>) -> Option<u64>
     }
 }
 
-fn or_word(a: Option<u64>, b: Option<u64>) -> Option<u64>
+pub(crate) fn or_word(a: Option<u64>, b: Option<u64>) -> Option<u64>
     ensures { result ≡ or_word a b }
 {
     match a {
@@ -257,7 +262,7 @@ fn or_word(a: Option<u64>, b: Option<u64>) -> Option<u64>
 }
 
 /// Of two words the one that a test chooses.
-fn chosen_word(test: Option<u64>, a: Option<u64>, b: Option<u64>) -> Option<u64>
+pub(crate) fn chosen_word(test: Option<u64>, a: Option<u64>, b: Option<u64>) -> Option<u64>
     ensures { result ≡ chosen_word test a b }
 {
     match test {

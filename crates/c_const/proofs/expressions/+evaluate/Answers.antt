@@ -1,5 +1,5 @@
-use Rattle.std.proofs.Common.{◌≡◌, sym, ap, ◌∙◌, refl}
-use Rattle.c_const.specs.Constants.{evaluated, names_in, told_in, binary, chain, evaluated_links, conditional, prefixed_part, cast_told}
+use Rattle.std.proofs.Common.{sym, ap, ◌∙◌}
+use Rattle.c_const.specs.Constants.{evaluated, prefixed_part, cast_told}
 use Rattle.c_const.proofs.EvaluatedLemmas.{name_told, number_told, character_told, paren_has, prefix_has, sizeof_expr_has, sizeof_type_has, cast_has, binary_told, conditional_told, chain_next, has_nothing}
 use Rattle.c_const.proofs.expressions.+evaluate.Goals as goal
 
