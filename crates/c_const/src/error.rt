@@ -1,12 +1,9 @@
-<<<<<<< HEAD
 //! Why an expression is no constant.
 
-=======
 ghost use Rattle.std.specs.Prelude.{◌≡◌};
 ghost use Rattle.c_const.specs.declared.error.ConstError.TheVariants.{Memory};
 
 use std::alloc::AllocError;
->>>>>>> ea56cfa90f255174df3cd9afe5913c31b127874a
 use thiserror::Error;
 
 /// Why an expression or an initialiser has no constant value.
