@@ -316,7 +316,7 @@ top_apart Rising Done h d f = absurd (false≢true h)
 top_apart Held Done h d f = absurd (false≢true h)
 top_apart Passed Done h d f = absurd (false≢true h)
 
-none_done : (f n k : ℕ) (stage : ℕ → Stage) → Fit n stage → is_apart (stage 0) ≡ true → k ≤ f → k < n → (is_done (stage k) ≡ false) × (is_falling (stage k) ≡ false)
+pub none_done : (f n k : ℕ) (stage : ℕ → Stage) → Fit n stage → is_apart (stage 0) ≡ true → k ≤ f → k < n → (is_done (stage k) ≡ false) × (is_falling (stage k) ≡ false)
 none_done zero n k stage fit top low within = let e : k ≡ 0 = omega arith in let a : stage k ≡ Apart = ap stage e ∙ is_it_apart (stage 0) top in (ap is_done a, ap is_falling a)
 none_done (suc f) n k stage fit top low within = elim (cases_lt 0 k) [
   | inr none ↦ let e : k ≡ 0 = omega arith in let a : stage k ≡ Apart = ap stage e ∙ is_it_apart (stage 0) top in (ap is_done a, ap is_falling a)

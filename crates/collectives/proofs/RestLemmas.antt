@@ -122,7 +122,7 @@ ending_keeps groups gives s r j are under joined gathered =
     some_none j ctx position a q e = let is : j ≡ record { ctx = ctx; position = position; arg = a; gathered = None } = cc in ap (λ x. is_some x.gathered) (sym is) ∙ e
 
 -- a child of which the parent doesn't hold the message
-missing : (Q : ℕ → Type 0) (p : ℕ → Bool) (xs : List ℕ) → All Q xs → list_all p xs ≡ false → (c : ℕ) × (Q c × (p c ≡ false))
+pub missing : (Q : ℕ → Type 0) (p : ℕ → Bool) (xs : List ℕ) → All Q xs → list_all p xs ≡ false → (c : ℕ) × (Q c × (p c ≡ false))
 missing Q p [] h e = absurd (true≢false e)
 missing Q p (x ∷ xs) h e = elim (cases_Bool (p x)) [
   | inr f ↦ (x, (All-head Q x xs h, f))
@@ -145,7 +145,7 @@ below_done Rising h f = absurd (false≢true h)
 below_done Held h f = absurd (false≢true h)
 below_done Passed h f = absurd (false≢true h)
 
-is_it_done : (s : Stage) → (is_apart s || is_done s) ≡ true → is_apart s ≡ false → s ≡ Done
+pub is_it_done : (s : Stage) → (is_apart s || is_done s) ≡ true → is_apart s ≡ false → s ≡ Done
 is_it_done Done e f = refl
 is_it_done Apart e f = absurd (true≢false f)
 is_it_done Rising e f = absurd (false≢true e)
