@@ -3,8 +3,8 @@ use Rattle.std.specs.Prelude.{ℕ, ◌≡◌, ◌<◌, ◌≤◌, ◌||◌, Bool
 use Rattle.mpi_types.specs.declared.group.Group.{Group}
 use Rattle.collectives.specs.Tree.{end_of, parent_of}
 use Rattle.collectives.specs.Stages.{Stage, is_rising, is_held, is_falling, is_done}
-use Rattle.collectives.specs.System.{Parcel, goes_up_from, goes_down_to}
-use Rattle.collectives.specs.Underway.{Groups, Gives, AreGroups, System, Underway, rank_in}
+use Rattle.collectives.specs.System.{Parcel, goes_down_to}
+use Rattle.collectives.specs.Underway.{Groups, Gives, AreGroups, System, Underway}
 
 -- there is a message up of the member, on its way or at its parent; the list is on its way to it
 abbrev pub has_up : (ℕ → Stage) → ℕ → Bool
