@@ -1,20 +1,20 @@
 -- What is under way after a member has sent, and after a message has arrived.
-use Rattle.std.proofs.Common.{ℕ, zero, suc, ◌≡◌, ◌≢◌, ◌+◌, ◌-◌, ◌<◌, ◌≤◌, ◌⊎◌, inl, inr, List, [], ◌∷◌, ◌++◌, map, cond, Bool, true, false, ◌&&◌, ◌||◌, Option, Some, None, length, get_or, refl, sym, subst, ap, ◌∙◌, arith, append-nil}
-use Rattle.std.specs.Prelude.{nat_eq, nat_lt, is_some, not, All, filter}
-use Rattle.std.proofs.lemmas.Bool.{cases_Bool, cases_lt, cases_eq, and_parts, and_from, and_left, and_right, eqb-true, eqb-false, eq-eqb, ne_eqb, true≢false, false≢true, cond-true, cond-false, not-true}
+use Rattle.std.proofs.Common.{ℕ, ◌≡◌, ◌≢◌, ◌<◌, ◌≤◌, inl, inr, List, [], ◌∷◌, ◌++◌, map, cond, Bool, true, false, ◌&&◌, refl, sym, subst, ap, ◌∙◌, arith, append-nil}
+use Rattle.std.specs.Prelude.{nat_eq, not, All, filter}
+use Rattle.std.proofs.lemmas.Bool.{cases_Bool, cases_eq, and_parts, and_from, and_left, and_right, eqb-true, eqb-false, eq-eqb, ne_eqb, true≢false, cond-true, cond-false, not-true}
 use Rattle.std.proofs.lemmas.List.Elements.{All-nil, All-cons, All-head, All-tail, All-weaker, filter-append}
 use Rattle.mpi_types.specs.declared.argument.TreeMsg.{TreeMsg}
 use Rattle.mpi_types.specs.declared.context.Level.{Level}
 use Rattle.mpi_types.specs.Accepts.{is_same_ctx}
 use Rattle.mpi_types.proofs.AcceptLemmas.{contexts_tell}
-use Rattle.collectives.specs.Tree.{end_of, parent_of, children}
+use Rattle.collectives.specs.Tree.{parent_of, children}
 use Rattle.collectives.specs.Held.{is_up, is_up_of}
 use Rattle.collectives.specs.Slices.{Given, up_of, down_of}
-use Rattle.collectives.specs.Stages.{Stage, is_apart, is_rising, is_held, is_falling, is_done, is_child, moved, came_up}
-use Rattle.collectives.specs.Stages.Stage.{Apart, Rising, Held, Passed, Falling, Done}
+use Rattle.collectives.specs.Stages.{Stage, is_rising, is_held, is_falling, is_child, moved}
+use Rattle.collectives.specs.Stages.Stage.{Rising, Passed, Falling, Done}
 use Rattle.collectives.specs.System.{Parcel, MessagesAre, is_down_of, goes_up_from, goes_down_to}
-use Rattle.collectives.proofs.TreeLemmas.{IsChild, children_are, parent_less, end_within}
-use Rattle.collectives.proofs.StageLemmas.{child_test, moved_own, moved_child, moved_other, not_child}
+use Rattle.collectives.proofs.TreeLemmas.{IsChild, children_are, end_within}
+use Rattle.collectives.proofs.StageLemmas.{child_test, moved_own, moved_child, moved_other}
 use Rattle.collectives.proofs.GoLemmas.{filter_none, child_once}
 
 same_ctx : (ctx : List Level) → is_same_ctx ctx ctx ≡ true

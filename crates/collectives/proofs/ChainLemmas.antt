@@ -1,16 +1,16 @@
 -- What a member holds of its children is whole just where the messages of all of them are there.
-use Rattle.std.proofs.Common.{ℕ, zero, suc, ◌≡◌, ◌≢◌, ◌+◌, ◌-◌, ◌<◌, ◌≤◌, ◌⊎◌, inl, inr, List, [], ◌∷◌, ◌++◌, map, cond, Bool, true, false, ◌&&◌, Option, Some, None, length, refl, sym, subst, ap, ◌∙◌, arith, append_assoc}
+use Rattle.std.proofs.Common.{ℕ, zero, suc, ◌≡◌, ◌+◌, ◌-◌, ◌<◌, ◌≤◌, inl, inr, List, [], ◌∷◌, ◌++◌, map, Bool, true, false, ◌&&◌, Option, Some, None, refl, sym, subst, ap, ◌∙◌, arith, append_assoc}
 use Rattle.std.specs.Prelude.{nat_eq, nat_lt, is_some, filter}
 use Rattle.std.specs.Option.{option_to_list}
 use Rattle.std.specs.List.{list_all}
-use Rattle.std.proofs.lemmas.Bool.{cases_Bool, cases_lt, and_parts, and_cases, eq-eqb, ne_eqb, ltb-true, ltb-false, lt-ltb, le-ltb, true≢false, cond-true, cond-false}
+use Rattle.std.proofs.lemmas.Bool.{cases_Bool, and_parts, eq-eqb, ne_eqb, ltb-true, ltb-false, true≢false, cond-true, cond-false}
 use Rattle.mpi_types.specs.declared.argument.Arg.{Arg}
 use Rattle.mpi_types.specs.declared.argument.TreeMsg.{TreeMsg}
 use Rattle.mpi_types.specs.declared.argument.Joined.{Joined}
 use Rattle.mpi_types.specs.declared.context.Level.{Level}
 use Rattle.collectives.specs.Tree.{end_of, parent_of, children, children_from}
 use Rattle.collectives.specs.Held.{following, ends_at, are_from, is_up_of, up_args, here_of}
-use Rattle.collectives.specs.Slices.{Given, slice, subtree_of, all_of, HaveJoined, AreNumbered, up_of}
+use Rattle.collectives.specs.Slices.{Given, slice, subtree_of, HaveJoined, AreNumbered, up_of}
 use Rattle.collectives.proofs.HeldLemmas.{follows_on, following-append, own_first}
 use Rattle.collectives.proofs.TreeLemmas.{end_behind, end_within, end_nested, parent_first, parent_next}
 

@@ -1,31 +1,25 @@
 -- What the arrival of a message changes, over the stages of all members.
-use Rattle.std.proofs.Common.{ℕ, zero, suc, ◌≡◌, ◌≢◌, ◌+◌, ◌-◌, ◌<◌, ◌≤◌, ◌⊎◌, inl, inr, List, [], ◌∷◌, ◌++◌, map, cond, Bool, true, false, ◌&&◌, ◌||◌, Option, Some, None, length, get_or, refl, sym, subst, ap, ◌∙◌, arith, append-nil}
-use Rattle.std.specs.Prelude.{nat_eq, nat_lt, is_some, not, All, filter}
-use Rattle.std.specs.List.{list_all}
-use Rattle.std.proofs.lemmas.Bool.{cases_Bool, cases_lt, cases_eq, and_parts, and_from, and_left, and_right, eqb-true, eqb-false, eq-eqb, ne_eqb, true≢false, false≢true, cond-true, cond-false, lt-ltb, le-ltb, ltb-true, not-true}
+use Rattle.std.proofs.Common.{ℕ, zero, suc, ◌≡◌, ◌≢◌, ◌+◌, ◌<◌, ◌≤◌, inl, inr, List, [], ◌∷◌, ◌++◌, map, cond, Bool, true, false, ◌&&◌, ◌||◌, get_or, refl, sym, subst, ap, ◌∙◌, arith}
+use Rattle.std.specs.Prelude.{nat_eq, nat_lt, All, filter}
+use Rattle.std.proofs.lemmas.Bool.{cases_Bool, cases_lt, cases_eq, and_parts, and_from, and_left, and_right, eqb-true, eq-eqb, ne_eqb, true≢false, false≢true, cond-true, cond-false, lt-ltb, le-ltb, ltb-true}
 use Rattle.std.proofs.lemmas.List.Elements.{All-nil, All-cons, All-head, All-tail, All-weaker}
-use Rattle.mpi_types.specs.declared.argument.Arg.{Arg}
-use Rattle.mpi_types.specs.declared.argument.Joined.{Joined}
 use Rattle.mpi_types.specs.declared.argument.TreeMsg.{TreeMsg}
 use Rattle.mpi_types.specs.declared.context.Level.{Level}
 use Rattle.mpi_types.specs.Accepts.{is_same_ctx}
 use Rattle.mpi_types.specs.Order.{is_tree_before, is_ctx_before, IsTreeOrdered}
 use Rattle.mpi_types.proofs.AcceptLemmas.{contexts_tell}
-use Rattle.collectives.specs.declared.sends.TreeSend.{TreeSend}
 use Rattle.collectives.specs.Tree.{end_of, parent_of, children, children_from}
 use Rattle.collectives.specs.Held.{is_up, is_up_of, put_message}
-use Rattle.collectives.specs.Sends.{down_send, down_sends}
-use Rattle.collectives.specs.Sweeps.{Went, closed, with_list}
-use Rattle.collectives.specs.Slices.{Given, all_of, up_of, down_of}
-use Rattle.collectives.specs.Stages.{Stage, is_apart, is_rising, is_held, is_falling, is_done, is_passed, may_be_below, is_child, moved, came_up, Fit}
+use Rattle.collectives.specs.Slices.{Given, up_of, down_of}
+use Rattle.collectives.specs.Stages.{Stage, is_apart, is_rising, is_held, is_falling, is_done, may_be_below, came_up, Fit}
 use Rattle.collectives.specs.Stages.Stage.{Apart, Rising, Held, Passed, Falling, Done}
 use Rattle.collectives.specs.System.{Parcel, StagesFit, Waits, MessagesAre, is_down_of, goes_up_from, goes_down_to}
 use Rattle.collectives.proofs.TreeLemmas.{IsChild, children_are, parent_less, end_within, end_behind}
-use Rattle.collectives.proofs.StageLemmas.{moved_own, moved_child, moved_other, above_rising}
+use Rattle.collectives.proofs.StageLemmas.{above_rising}
 use Rattle.collectives.proofs.OrderLemmas.{put_filter, ctx_not_before}
-use Rattle.collectives.proofs.GoLemmas.{filter_none, filter_same, all_same, child_holds, child_once, AreNext, GoesOn, go_fit, go_wait, go_held}
-use Rattle.collectives.proofs.BagLemmas.{parcel_down, bag_falls, up_is_up, down_is_down, up_not_down, down_not_up, taken_one, taken_other, taken_none}
-use Rattle.collectives.proofs.LookLemmas.{with_tree, with_tree-same, with_tree-other, parcels, parcels_down, next_down}
+use Rattle.collectives.proofs.GoLemmas.{filter_same, all_same, child_once}
+use Rattle.collectives.proofs.BagLemmas.{up_not_down, taken_one, taken_other, taken_none}
+use Rattle.collectives.proofs.LookLemmas.{with_tree, with_tree-same, with_tree-other}
 
 is_it_rising : (s : Stage) → is_rising s ≡ true → s ≡ Rising
 is_it_rising Rising e = refl

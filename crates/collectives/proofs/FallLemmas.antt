@@ -1,26 +1,24 @@
 -- What the arrival of the list changes, over the stages of all members.
-use Rattle.std.proofs.Common.{ℕ, zero, suc, ◌≡◌, ◌≢◌, ◌+◌, ◌-◌, ◌<◌, ◌≤◌, ◌⊎◌, inl, inr, List, [], ◌∷◌, ◌++◌, map, cond, Bool, true, false, ◌&&◌, ◌||◌, Option, Some, None, length, get_or, refl, sym, subst, ap, ◌∙◌, arith, append-nil}
-use Rattle.std.specs.Prelude.{nat_eq, nat_lt, is_some, not, All, filter}
-use Rattle.std.specs.List.{list_all}
+use Rattle.std.proofs.Common.{ℕ, zero, suc, ◌≡◌, ◌≢◌, ◌+◌, ◌<◌, ◌≤◌, ◌⊎◌, inl, inr, List, [], ◌∷◌, ◌++◌, map, Bool, true, false, ◌&&◌, refl, sym, subst, ap, ◌∙◌, arith}
+use Rattle.std.specs.Prelude.{nat_eq, is_some, not, All, filter}
 use Rattle.std.proofs.lemmas.Bool.{cases_Bool, cases_lt, cases_eq, and_parts, and_from, and_left, and_right, eqb-true, eqb-false, eq-eqb, ne_eqb, true≢false, false≢true, cond-true, cond-false, not-true}
-use Rattle.std.proofs.lemmas.List.Elements.{All-nil, All-cons, All-head, All-tail, All-weaker}
-use Rattle.mpi_types.specs.declared.argument.Arg.{Arg}
+use Rattle.std.proofs.lemmas.List.Elements.{All-weaker}
 use Rattle.mpi_types.specs.declared.argument.Joined.{Joined}
 use Rattle.mpi_types.specs.declared.argument.TreeMsg.{TreeMsg}
 use Rattle.mpi_types.specs.declared.context.Level.{Level}
 use Rattle.mpi_types.specs.Accepts.{is_same_ctx}
-use Rattle.collectives.specs.Tree.{end_of, parent_of, children}
+use Rattle.collectives.specs.Tree.{parent_of, children}
 use Rattle.collectives.specs.Held.{are_from, is_up, is_up_of}
 use Rattle.collectives.specs.Sends.{down_sends}
-use Rattle.collectives.specs.Sweeps.{Went, closed, with_list}
-use Rattle.collectives.specs.Slices.{Given, slice, all_of, AreNumbered, HaveJoined, up_of, down_of}
-use Rattle.collectives.specs.Stages.{Stage, is_apart, is_rising, is_held, is_falling, is_done, is_passed, may_be_below, is_child, moved, Fit}
+use Rattle.collectives.specs.Sweeps.{closed}
+use Rattle.collectives.specs.Slices.{Given, all_of, AreNumbered, up_of, down_of}
+use Rattle.collectives.specs.Stages.{Stage, is_apart, is_rising, is_held, is_falling, is_done, is_passed, may_be_below, is_child, moved}
 use Rattle.collectives.specs.Stages.Stage.{Apart, Rising, Held, Passed, Falling, Done}
 use Rattle.collectives.specs.System.{Parcel, StagesFit, Waits, MessagesAre, is_down_of, goes_up_from, goes_down_to}
-use Rattle.collectives.proofs.TreeLemmas.{IsChild, children_are, parent_less, end_within, end_behind}
-use Rattle.collectives.proofs.ChainLemmas.{following_slice, subtree_whole}
+use Rattle.collectives.proofs.TreeLemmas.{IsChild, children_are, end_within}
+use Rattle.collectives.proofs.ChainLemmas.{following_slice}
 use Rattle.collectives.proofs.StageLemmas.{moved_own, moved_child, moved_other}
-use Rattle.collectives.proofs.GoLemmas.{filter_none, AreNext, GoesOn, go_fit, go_wait, go_held}
+use Rattle.collectives.proofs.GoLemmas.{filter_none, GoesOn, go_fit, go_wait, go_held}
 use Rattle.collectives.proofs.BagLemmas.{parcel_down, bag_falls, down_not_up, taken_one, taken_other, taken_none}
 use Rattle.collectives.proofs.LookLemmas.{Looked, with_tree, with_tree-same, with_tree-other, parcels, parcels_down, next_down}
 use Rattle.collectives.proofs.ComeLemmas.{is_it_falling, not_top}

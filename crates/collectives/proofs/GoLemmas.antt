@@ -1,19 +1,19 @@
 -- A member and its children go on to their next stages.
-use Rattle.std.proofs.Common.{ℕ, zero, suc, ◌≡◌, ◌≢◌, ◌+◌, ◌-◌, ◌<◌, ◌≤◌, ◌⊎◌, inl, inr, List, [], ◌∷◌, ◌++◌, map, cond, Bool, true, false, ◌&&◌, ◌||◌, Option, Some, None, length, get_or, refl, sym, subst, ap, ◌∙◌, arith}
-use Rattle.std.specs.Prelude.{nat_eq, nat_lt, is_some, not, All, filter}
+use Rattle.std.proofs.Common.{ℕ, zero, suc, ◌≡◌, ◌≢◌, ◌+◌, ◌-◌, ◌<◌, ◌≤◌, inl, inr, List, [], ◌∷◌, map, cond, Bool, true, false, ◌||◌, refl, sym, subst, ap, ◌∙◌, arith}
+use Rattle.std.specs.Prelude.{nat_eq, nat_lt, not, All, filter}
 use Rattle.std.specs.List.{list_all}
-use Rattle.std.proofs.lemmas.Bool.{cases_Bool, cases_lt, cases_eq, and_parts, and_from, eqb-true, eqb-false, eq-eqb, ne_eqb, true≢false, false≢true, cond-true, cond-false, ltb-true, ltb-false, lt-ltb, not-true}
+use Rattle.std.proofs.lemmas.Bool.{cases_Bool, cases_lt, cases_eq, and_parts, eqb-true, eqb-false, eq-eqb, ne_eqb, true≢false, cond-true, cond-false, ltb-true, lt-ltb, not-true}
 use Rattle.std.proofs.lemmas.List.Elements.{All-nil, All-cons, All-head, All-tail, All-weaker}
 use Rattle.mpi_types.specs.declared.argument.TreeMsg.{TreeMsg}
 use Rattle.mpi_types.specs.declared.context.Level.{Level}
-use Rattle.collectives.specs.Tree.{lowest_bit, end_of, parent_of, children, children_from}
+use Rattle.collectives.specs.Tree.{end_of, parent_of, children, children_from}
 use Rattle.collectives.specs.Held.{is_up_of}
-use Rattle.collectives.specs.Slices.{Given, HaveJoined, AreNumbered, up_of, down_of}
-use Rattle.collectives.specs.Stages.{Stage, is_apart, is_rising, is_held, is_falling, is_done, is_passed, may_be_below, is_child, moved, came_up, Fit}
-use Rattle.collectives.specs.Stages.Stage.{Apart, Rising, Held, Passed, Falling, Done}
-use Rattle.collectives.specs.System.{Parcel, StagesFit, Waits, MessagesAre, goes_up_from, goes_down_to}
+use Rattle.collectives.specs.Slices.{Given, up_of}
+use Rattle.collectives.specs.Stages.{Stage, is_apart, is_held, is_done, is_passed, may_be_below, is_child, moved}
+use Rattle.collectives.specs.Stages.Stage.{Done}
+use Rattle.collectives.specs.System.{StagesFit, Waits}
 use Rattle.collectives.proofs.TreeLemmas.{IsChild, children_are, parent_less, end_within, end_behind, end_nested, parent_first, parent_next}
-use Rattle.collectives.proofs.StageLemmas.{child_test, not_child, moved_own, moved_child, moved_other, moved_fit, parent_in}
+use Rattle.collectives.proofs.StageLemmas.{not_child, moved_own, moved_child, moved_other, moved_fit, parent_in}
 
 -- lists of numbers on which two tests agree
 pub filter_same : (p q : ℕ → Bool) (xs : List ℕ) → All (λ x. p x ≡ q x) xs → filter p xs ≡ filter q xs

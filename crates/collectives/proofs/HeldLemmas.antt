@@ -1,6 +1,6 @@
 -- What is held, and where a message stands.
-use Rattle.std.proofs.Common.{ℕ, zero, suc, ◌≡◌, ◌≢◌, ◌+◌, ◌-◌, ◌<◌, ◌≤◌, ◌⊎◌, inl, inr, List, [], ◌∷◌, ◌++◌, cond, true, false, Option, Some, None, length, refl, sym, subst, ap, ◌∙◌, arith, get_or, add-one, drop-cons, Bool}
-use Rattle.std.specs.Prelude.{nat_eq, insert, take, drop}
+use Rattle.std.proofs.Common.{ℕ, suc, ◌≡◌, ◌+◌, ◌<◌, ◌≤◌, inl, inr, List, [], ◌∷◌, ◌++◌, true, Option, Some, None, length, refl, sym, ap, ◌∙◌, arith, get_or, add-one, drop-cons}
+use Rattle.std.specs.Prelude.{nat_eq, insert, drop}
 use Rattle.std.proofs.lemmas.Bool.{cases_Bool, eq-eqb}
 use Rattle.mpi_types.specs.declared.argument.Arg.{Arg}
 use Rattle.mpi_types.specs.declared.argument.TreeMsg.{TreeMsg}

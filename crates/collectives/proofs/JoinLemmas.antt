@@ -1,10 +1,7 @@
 -- A rank that joins a collective keeps all of them under way.
-use Rattle.std.proofs.Common.{ℕ, zero, suc, ◌≡◌, ◌≢◌, ◌+◌, ◌-◌, ◌<◌, ◌≤◌, ◌⊎◌, inl, inr, List, [], ◌∷◌, ◌++◌, map, cond, Bool, true, false, ◌&&◌, ◌||◌, Option, Some, None, length, get_or, refl, sym, subst, ap, ◌∙◌, arith, append-nil}
-use Rattle.std.specs.Prelude.{nat_eq, is_some, not, All, AllPairs, filter}
-use Rattle.std.specs.List.{list_all}
-use Rattle.std.proofs.lemmas.Bool.{cases_Bool, cases_lt, cases_eq, and_parts, and_from, and_cases, and_left, and_right, eqb-true, eqb-false, eq-eqb, ne_eqb, true≢false, false≢true, cond-true, cond-false, not-true}
-use Rattle.std.proofs.lemmas.List.Elements.{All-nil, All-cons, All-head, All-tail, All-weaker}
-use Rattle.std.proofs.lemmas.List.Kept.{AllPairs-filter}
+use Rattle.std.proofs.Common.{ℕ, ◌≡◌, ◌≢◌, ◌<◌, ◌⊎◌, inl, inr, List, ◌++◌, cond, Bool, true, false, Option, Some, None, length, refl, sym, subst, ap, ◌∙◌}
+use Rattle.std.specs.Prelude.{nat_eq, is_some, filter}
+use Rattle.std.proofs.lemmas.Bool.{cases_Bool, cases_eq, and_parts, and_from, eqb-true, eq-eqb, ne_eqb, true≢false, cond-true, cond-false}
 use Rattle.mpi_types.specs.declared.argument.Arg.{Arg}
 use Rattle.mpi_types.specs.declared.argument.Joined.{Joined}
 use Rattle.mpi_types.specs.declared.argument.Sweep.{Sweep}
@@ -12,22 +9,17 @@ use Rattle.mpi_types.specs.declared.argument.TreeMsg.{TreeMsg}
 use Rattle.mpi_types.specs.declared.context.Level.{Level}
 use Rattle.mpi_types.specs.declared.group.Group.{Group}
 use Rattle.mpi_types.specs.Accepts.{is_same_ctx}
-use Rattle.mpi_types.specs.Order.{is_tree_before, IsTreeOrdered}
+use Rattle.mpi_types.specs.Order.{IsTreeOrdered}
 use Rattle.mpi_types.proofs.AcceptLemmas.{contexts_tell}
-use Rattle.collectives.specs.declared.sends.TreeSend.{TreeSend}
-use Rattle.collectives.specs.declared.sends.SweepOut.{SweepOut}
-use Rattle.collectives.specs.Tree.{end_of, parent_of, children}
-use Rattle.collectives.specs.Held.{are_from, here_of, is_up, is_up_of, others_of}
-use Rattle.collectives.specs.Sends.{down_send, down_sends, up_send}
-use Rattle.collectives.specs.Sweeps.{Went, looked, completed, closed, handed_up, quiet, with_list, joins, begun}
-use Rattle.collectives.specs.Slices.{Given, all_of, AreNumbered, up_of, down_of}
-use Rattle.collectives.specs.Stages.{Stage, is_apart, is_rising, is_held, is_falling, is_done}
-use Rattle.collectives.specs.System.{Parcel, StagesFit, Waits, MessagesAre, is_down_of, goes_up_from, goes_down_to}
-use Rattle.collectives.specs.Underway.{Groups, rank_in, AreGroups, Gives, AllGive, System, parcels_in, is_collective, with_joined, with_sweep, MayJoin, went_at_joining, after_joining, Collective, IsCall, UnderwayAt, Underway}
+use Rattle.collectives.specs.Held.{is_up_of}
+use Rattle.collectives.specs.Sweeps.{Went, looked, with_list, joins}
+use Rattle.collectives.specs.Slices.{all_of}
+use Rattle.collectives.specs.Stages.{Stage, is_apart, is_done}
+use Rattle.collectives.specs.System.{Parcel, StagesFit, Waits, goes_up_from, goes_down_to}
+use Rattle.collectives.specs.Underway.{Groups, rank_in, AreGroups, Gives, AllGive, System, is_collective, with_joined, with_sweep, MayJoin, after_joining, Collective, IsCall, UnderwayAt, Underway}
 use Rattle.collectives.proofs.BagLemmas.{filter_all_less}
-use Rattle.collectives.proofs.GoLemmas.{filter_none}
 use Rattle.collectives.proofs.LookLemmas.{Looks, Looked, look, with_tree, with_tree-same, with_tree-other, parcels}
-use Rattle.collectives.proofs.SystemLemmas.{LeavesOthers, looked_leaves, sent_up_none, sent_down_none, same_messages, trees_kept, trees_of, with_sweep-same, with_sweep-other}
+use Rattle.collectives.proofs.SystemLemmas.{LeavesOthers, looked_leaves, sent_up_none, sent_down_none, same_messages, trees_kept, with_sweep-same, with_sweep-other}
 
 -- stages of all collectives, with those of one
 abbrev pub with_stages : List Level → ℕ → (ℕ → Stage) → (List Level → ℕ → ℕ → Stage) → List Level → ℕ → ℕ → Stage

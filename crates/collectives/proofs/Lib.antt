@@ -16,3 +16,4 @@ pub mod ArriveLemmas
 pub mod OutcomeLemmas
 pub mod KeepLemmas
 pub mod RestLemmas
+pub mod ClauseLemmas

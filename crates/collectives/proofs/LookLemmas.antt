@@ -1,9 +1,8 @@
 -- What a member does that looks at what it holds, over the stages of all members.
-use Rattle.std.proofs.Common.{ℕ, zero, suc, ◌≡◌, ◌≢◌, ◌+◌, ◌-◌, ◌<◌, ◌≤◌, ◌⊎◌, inl, inr, List, [], ◌∷◌, ◌++◌, map, cond, Bool, true, false, ◌&&◌, ◌||◌, Option, Some, None, length, get_or, refl, sym, subst, ap, ◌∙◌, arith, append-nil}
-use Rattle.std.specs.Prelude.{nat_eq, nat_lt, is_some, not, All, filter}
+use Rattle.std.proofs.Common.{ℕ, ◌≡◌, ◌≢◌, ◌-◌, ◌<◌, ◌≤◌, inl, inr, List, [], ◌∷◌, ◌++◌, map, cond, Bool, true, false, Some, refl, sym, subst, ap, ◌∙◌, arith, append-nil}
+use Rattle.std.specs.Prelude.{nat_eq, is_some, not, filter}
 use Rattle.std.specs.List.{list_all}
-use Rattle.std.proofs.lemmas.Bool.{cases_Bool, cases_lt, cases_eq, and_parts, and_from, or_cases, eqb-true, eqb-false, eq-eqb, ne_eqb, true≢false, false≢true, cond-true, cond-false, not-true, not_from_true}
-use Rattle.std.proofs.lemmas.List.Elements.{All-nil, All-cons, All-head, All-tail, All-weaker}
+use Rattle.std.proofs.lemmas.Bool.{cases_Bool, cases_eq, and_parts, eqb-true, eqb-false, eq-eqb, ne_eqb, true≢false, false≢true, cond-true, cond-false, not-true}
 use Rattle.mpi_types.specs.declared.argument.Arg.{Arg}
 use Rattle.mpi_types.specs.declared.argument.Joined.{Joined}
 use Rattle.mpi_types.specs.declared.argument.TreeMsg.{TreeMsg}
@@ -13,15 +12,15 @@ use Rattle.collectives.specs.Tree.{end_of, parent_of, children}
 use Rattle.collectives.specs.Held.{are_from, here_of, is_up_of, others_of}
 use Rattle.collectives.specs.Sends.{down_send, down_sends, up_send}
 use Rattle.collectives.specs.Sweeps.{Went, looked, completed, closed, handed_up, quiet, with_list}
-use Rattle.collectives.specs.Slices.{Given, slice, subtree_of, all_of, HaveJoined, AreNumbered, up_of, down_of}
-use Rattle.collectives.specs.Stages.{Stage, is_apart, is_rising, is_held, is_falling, is_done, is_passed, may_be_below, is_child, moved, came_up, Fit}
+use Rattle.collectives.specs.Slices.{Given, slice, subtree_of, all_of, HaveJoined, AreNumbered, up_of}
+use Rattle.collectives.specs.Stages.{Stage, is_apart, is_rising, is_held, is_falling, is_done, may_be_below, is_child, moved}
 use Rattle.collectives.specs.Stages.Stage.{Apart, Rising, Held, Passed, Falling, Done}
-use Rattle.collectives.specs.System.{Parcel, StagesFit, Waits, MessagesAre, goes_up_from, goes_down_to}
-use Rattle.collectives.proofs.TreeLemmas.{IsChild, children_are, parent_less, end_within, end_behind}
+use Rattle.collectives.specs.System.{Parcel, StagesFit, Waits, MessagesAre, goes_down_to}
+use Rattle.collectives.proofs.TreeLemmas.{end_within}
 use Rattle.collectives.proofs.ChainLemmas.{HoldsOf, holds_whole, holds_part, subtree_whole}
-use Rattle.collectives.proofs.StageLemmas.{moved_own, moved_child, moved_other, not_apart_below}
-use Rattle.collectives.proofs.GoLemmas.{filter_none, child_holds, AreNext, GoesOn, go_fit, go_wait, go_held}
-use Rattle.collectives.proofs.BagLemmas.{parcel_down, bag_rises, bag_falls, moved_test}
+use Rattle.collectives.proofs.StageLemmas.{moved_own, moved_child, moved_other}
+use Rattle.collectives.proofs.GoLemmas.{child_holds, AreNext, GoesOn, go_fit, go_wait, go_held}
+use Rattle.collectives.proofs.BagLemmas.{parcel_down, bag_rises, bag_falls}
 
 -- trees of members, with another at one
 abbrev pub with_tree : ℕ → List TreeMsg → (ℕ → List TreeMsg) → ℕ → List TreeMsg

@@ -1,47 +1,31 @@
 -- What an arrival leads to.
-use Rattle.std.proofs.Common.{ℕ, zero, suc, ◌≡◌, ◌≢◌, ◌+◌, ◌-◌, ◌<◌, ◌≤◌, ◌⊎◌, inl, inr, List, [], ◌∷◌, ◌++◌, map, cond, Bool, true, false, ◌&&◌, ◌||◌, Option, Some, None, length, get_or, refl, sym, subst, ap, ◌∙◌, arith, append-nil}
-use Rattle.std.specs.Prelude.{nat_eq, is_some, not, All, AllPairs, filter}
-use Rattle.std.specs.List.{list_all}
-use Rattle.std.proofs.lemmas.Bool.{cases_Bool, cases_lt, cases_eq, and_parts, and_from, and_cases, and_left, and_right, eqb-true, eqb-false, eq-eqb, ne_eqb, true≢false, false≢true, cond-true, cond-false, not-true}
-use Rattle.std.proofs.lemmas.List.Elements.{All-nil, All-cons, All-head, All-tail, All-weaker}
-use Rattle.std.proofs.lemmas.List.Kept.{AllPairs-filter}
-use Rattle.mpi_types.specs.declared.argument.Arg.{Arg}
+use Rattle.std.proofs.Common.{ℕ, ◌≡◌, ◌<◌, ◌⊎◌, inl, inr, List, [], ◌++◌, true, false, ◌&&◌, Option, Some, None, length, refl, sym, subst, ap, ◌∙◌, arith, append-nil}
+use Rattle.std.specs.Prelude.{nat_eq, is_some, filter}
+use Rattle.std.proofs.lemmas.Bool.{cases_eq, and_left, true≢false, false≢true, cond-true, cond-false}
+use Rattle.std.proofs.lemmas.List.Elements.{All-nil}
 use Rattle.mpi_types.specs.declared.argument.Joined.{Joined}
-use Rattle.mpi_types.specs.declared.argument.Sweep.{Sweep}
 use Rattle.mpi_types.specs.declared.argument.TreeMsg.{TreeMsg}
 use Rattle.mpi_types.specs.declared.context.Level.{Level}
 use Rattle.mpi_types.specs.declared.group.Group.{Group}
 use Rattle.mpi_types.specs.Accepts.{is_same_ctx}
-use Rattle.mpi_types.specs.Order.{is_tree_before, IsTreeOrdered}
-use Rattle.mpi_types.proofs.AcceptLemmas.{contexts_tell}
 use Rattle.collectives.specs.declared.sends.TreeSend.{TreeSend}
-use Rattle.collectives.specs.declared.sends.SweepOut.{SweepOut}
-use Rattle.collectives.specs.Tree.{end_of, parent_of, children}
-use Rattle.collectives.specs.Held.{are_from, here_of, is_up, is_up_of, others_of, put_message}
-use Rattle.collectives.specs.Sends.{down_send, down_sends, up_send}
-use Rattle.collectives.specs.Sweeps.{Went, looked, completed, closed, handed_up, quiet, with_list, joins, begun}
-use Rattle.collectives.specs.Slices.{Given, all_of, AreNumbered, up_of, down_of}
-use Rattle.collectives.specs.Stages.{Stage, is_apart, is_rising, is_held, is_falling, is_done}
-use Rattle.collectives.specs.System.{Parcel, StagesFit, Waits, MessagesAre, is_down_of, goes_up_from, goes_down_to}
-use Rattle.collectives.specs.Underway.{Groups, rank_in, AreGroups, Gives, AllGive, System, parcels_in, is_collective, with_joined, with_sweep, MayJoin, went_at_joining, after_joining, Collective, IsCall, UnderwayAt, Underway}
-use Rattle.collectives.proofs.BagLemmas.{filter_all_less}
-use Rattle.collectives.proofs.GoLemmas.{filter_none}
+use Rattle.collectives.specs.Tree.{parent_of}
+use Rattle.collectives.specs.Held.{is_up, is_up_of, put_message}
+use Rattle.collectives.specs.Sweeps.{Went}
+use Rattle.collectives.specs.Stages.{Stage, is_apart, is_done}
+use Rattle.collectives.specs.System.{Parcel, goes_up_from, goes_down_to}
+use Rattle.collectives.specs.Underway.{Groups, rank_in, AreGroups, Gives, AllGive, System, is_collective, with_sweep, Collective, IsCall, UnderwayAt}
 use Rattle.collectives.proofs.TreeLemmas.{parent_less}
-use Rattle.collectives.proofs.LookLemmas.{is_it_apart, Looks, Looked, look, with_tree, with_tree-same, with_tree-other, parcels}
-use Rattle.mpi_types.specs.declared.argument.Direction.{Direction}
-use Rattle.mpi_types.specs.declared.argument.Direction.TheVariants.{Up, Down}
-use Rattle.std.specs.Prelude.{is_none}
+use Rattle.collectives.proofs.LookLemmas.{is_it_apart, with_tree, with_tree-same, with_tree-other}
 use Rattle.collectives.specs.Stages.{came_up}
-use Rattle.collectives.specs.Sweeps.{awaits, kept, arrived, arrived_at, goes_on, closed_by, IsNotHeld}
-use Rattle.collectives.specs.Underway.{MayArrive, went_at_arrival, parcels_by, after_arrival}
+use Rattle.collectives.specs.Sweeps.{kept, IsNotHeld}
+use Rattle.collectives.specs.Underway.{MayArrive, parcels_by}
 use Rattle.collectives.proofs.ChainLemmas.{has_some}
 use Rattle.collectives.proofs.OrderLemmas.{put_filter_other, put_ordered}
-use Rattle.collectives.proofs.BagLemmas.{taken_other}
-use Rattle.collectives.proofs.ComeLemmas.{CameUp, comes_up}
-use Rattle.collectives.proofs.FallLemmas.{FallsTo, falls_to, falls, all_whole}
-use Rattle.collectives.proofs.SystemLemmas.{LeavesOthers, looked_leaves, closed_leaves, not_of_other, sent_up_none, sent_down_none, same_messages, trees_kept, trees_of, with_sweep-same, with_sweep-other}
-use Rattle.collectives.proofs.JoinLemmas.{with_stages, same_collective, which_collective, other_collective, this_collective, call_at, own_call}
-use Rattle.collectives.proofs.ArriveLemmas.{IsKept, IsAwaited, arrived_cases, awaited_is, none_is, awaits_call, Outcome, from_outcome}
+use Rattle.collectives.proofs.ComeLemmas.{CameUp}
+use Rattle.collectives.proofs.SystemLemmas.{LeavesOthers, not_of_other, same_messages, with_sweep-same, with_sweep-other}
+use Rattle.collectives.proofs.JoinLemmas.{with_stages, same_collective, which_collective}
+use Rattle.collectives.proofs.ArriveLemmas.{IsKept, awaits_call, Outcome}
 
 pub option_cases : (o : Option Group) → (o ≡ None) ⊎ ((h : Group) × (o ≡ Some h))
 option_cases None = inl refl

@@ -1,14 +1,11 @@
 -- Stages that fit together go on fitting together.
-use Rattle.std.proofs.Common.{ℕ, zero, suc, ◌≡◌, ◌≢◌, ◌+◌, ◌-◌, ◌<◌, ◌≤◌, ◌⊎◌, inl, inr, List, [], ◌∷◌, ◌++◌, map, cond, Bool, true, false, ◌&&◌, Option, Some, None, length, refl, sym, subst, ap, ◌∙◌, arith}
-use Rattle.std.specs.Prelude.{nat_eq, nat_lt, is_some, not, All, filter}
-use Rattle.std.specs.List.{list_all}
-use Rattle.std.proofs.lemmas.Bool.{cases_Bool, cases_lt, cases_eq, and_parts, and_from, and_left, and_right, eqb-true, eqb-false, eq-eqb, ne_eqb, true≢false, false≢true, cond-true, cond-false, not_from_false, ltb-true, ltb-false, lt-ltb}
-use Rattle.std.proofs.lemmas.List.Elements.{All-nil, All-cons, All-head, All-tail, All-weaker}
-use Rattle.collectives.specs.Tree.{lowest_bit, end_of, parent_of, children, children_from}
-use Rattle.collectives.specs.Slices.{Given, HaveJoined}
-use Rattle.collectives.specs.Stages.{Stage, is_apart, is_rising, is_held, is_falling, is_done, is_passed, may_be_below, is_child, moved, came_up, Fit}
+use Rattle.std.proofs.Common.{ℕ, zero, suc, ◌≡◌, ◌≢◌, ◌+◌, ◌-◌, ◌<◌, ◌≤◌, inl, inr, cond, true, false, refl, sym, ap, ◌∙◌, arith}
+use Rattle.std.specs.Prelude.{nat_eq, not}
+use Rattle.std.proofs.lemmas.Bool.{cases_lt, cases_eq, and_from, and_right, eq-eqb, ne_eqb, true≢false, false≢true, cond-true, cond-false, not_from_false}
+use Rattle.collectives.specs.Tree.{lowest_bit, end_of, parent_of}
+use Rattle.collectives.specs.Stages.{Stage, is_apart, is_rising, may_be_below, is_child, moved, Fit}
 use Rattle.collectives.specs.Stages.Stage.{Apart, Rising, Held, Passed, Falling, Done}
-use Rattle.collectives.proofs.TreeLemmas.{IsChild, children_are, parent_less, end_within, end_behind, end_cut, end_nested, lowest_sum, lowest_at_most, lowest_pos, parent_first, parent_next}
+use Rattle.collectives.proofs.TreeLemmas.{parent_less, end_within, end_cut, lowest_sum, lowest_at_most}
 
 pub child_test : (i k : ℕ) → 0 < k → parent_of k ≡ i → is_child i k ≡ true
 child_test i k some is =

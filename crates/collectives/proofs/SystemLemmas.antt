@@ -1,9 +1,8 @@
 -- A rank that joins keeps all collectives under way.
-use Rattle.std.proofs.Common.{ℕ, zero, suc, ◌≡◌, ◌≢◌, ◌+◌, ◌-◌, ◌<◌, ◌≤◌, ◌⊎◌, inl, inr, List, [], ◌∷◌, ◌++◌, map, cond, Bool, true, false, ◌&&◌, ◌||◌, Option, Some, None, length, get_or, refl, sym, subst, ap, ◌∙◌, arith, append-nil}
-use Rattle.std.specs.Prelude.{nat_eq, is_some, not, All, AllPairs, filter}
-use Rattle.std.specs.List.{list_all}
-use Rattle.std.proofs.lemmas.Bool.{cases_Bool, cases_lt, cases_eq, and_parts, and_from, and_cases, and_left, and_right, eqb-true, eqb-false, eq-eqb, ne_eqb, true≢false, false≢true, cond-true, cond-false, not-true}
-use Rattle.std.proofs.lemmas.List.Elements.{All-nil, All-cons, All-head, All-tail, All-weaker}
+use Rattle.std.proofs.Common.{ℕ, ◌≡◌, ◌≢◌, ◌<◌, inl, inr, List, [], ◌∷◌, map, Bool, true, false, ◌&&◌, Some, length, refl, sym, subst, ap, ◌∙◌}
+use Rattle.std.specs.Prelude.{nat_eq, not, All, filter}
+use Rattle.std.proofs.lemmas.Bool.{cases_Bool, cases_eq, and_parts, and_from, and_left, eqb-true, eq-eqb, ne_eqb, true≢false, cond-true, cond-false}
+use Rattle.std.proofs.lemmas.List.Elements.{All-nil, All-cons, All-head, All-tail}
 use Rattle.std.proofs.lemmas.List.Kept.{AllPairs-filter}
 use Rattle.mpi_types.specs.declared.argument.Arg.{Arg}
 use Rattle.mpi_types.specs.declared.argument.Joined.{Joined}
@@ -15,18 +14,15 @@ use Rattle.mpi_types.specs.Accepts.{is_same_ctx}
 use Rattle.mpi_types.specs.Order.{is_tree_before, IsTreeOrdered}
 use Rattle.mpi_types.proofs.AcceptLemmas.{contexts_tell}
 use Rattle.collectives.specs.declared.sends.TreeSend.{TreeSend}
-use Rattle.collectives.specs.declared.sends.SweepOut.{SweepOut}
-use Rattle.collectives.specs.Tree.{end_of, parent_of, children}
+use Rattle.collectives.specs.Tree.{end_of, children}
 use Rattle.collectives.specs.Held.{are_from, here_of, is_up, is_up_of, others_of}
-use Rattle.collectives.specs.Sends.{down_send, down_sends, up_send}
-use Rattle.collectives.specs.Sweeps.{Went, looked, completed, closed, handed_up, quiet, with_list, joins, begun}
-use Rattle.collectives.specs.Slices.{Given, all_of, AreNumbered, up_of, down_of}
-use Rattle.collectives.specs.Stages.{Stage, is_apart, is_rising, is_held, is_falling, is_done}
-use Rattle.collectives.specs.System.{Parcel, StagesFit, Waits, MessagesAre, is_down_of, goes_up_from, goes_down_to}
-use Rattle.collectives.specs.Underway.{Groups, rank_in, AreGroups, Gives, AllGive, System, parcels_in, is_collective, with_joined, with_sweep, MayJoin, went_at_joining, after_joining, Collective, IsCall, UnderwayAt, Underway}
-use Rattle.collectives.proofs.BagLemmas.{filter_all_less}
-use Rattle.collectives.proofs.GoLemmas.{filter_none}
-use Rattle.collectives.proofs.LookLemmas.{Looks, Looked, look, with_tree, with_tree-same, with_tree-other, parcels}
+use Rattle.collectives.specs.Sends.{down_send, up_send}
+use Rattle.collectives.specs.Sweeps.{Went, looked, completed, closed, handed_up, quiet}
+use Rattle.collectives.specs.Slices.{Given}
+use Rattle.collectives.specs.Stages.{Stage}
+use Rattle.collectives.specs.System.{Parcel, MessagesAre, is_down_of, goes_up_from, goes_down_to}
+use Rattle.collectives.specs.Underway.{rank_in, System, is_collective, with_sweep}
+use Rattle.collectives.proofs.LookLemmas.{with_tree, with_tree-same, with_tree-other, parcels}
 
 -- two collectives that differ have no message in common
 

@@ -1,5 +1,5 @@
 -- What an arrival sends weighs less than what arrived.
-use Rattle.std.proofs.Common.{ℕ, zero, suc, ◌≡◌, ◌+◌, ◌<◌, ◌≤◌, ◌⊎◌, inl, inr, List, [], ◌∷◌, map, cond, Bool, true, false, Option, Some, None, length, refl, sym, subst, ap, ◌∙◌, arith}
+use Rattle.std.proofs.Common.{ℕ, ◌≡◌, ◌+◌, ◌<◌, ◌≤◌, inl, inr, List, [], ◌∷◌, map, Option, Some, None, length, refl, sym, subst, ap, ◌∙◌, arith}
 use Rattle.std.specs.Prelude.{nat_eq, sum_by, ◌&&◌, is_none}
 use Rattle.std.proofs.lemmas.Bool.{cases_Bool, and_parts, eqb-true, cond-true, cond-false}
 use Rattle.std.proofs.lemmas.List.Sums.{sum_by-cons}
@@ -7,17 +7,15 @@ use Rattle.mpi_types.specs.declared.argument.Arg.{Arg}
 use Rattle.mpi_types.specs.declared.argument.Direction.{Direction}
 use Rattle.mpi_types.specs.declared.argument.Direction.TheVariants.{Up, Down}
 use Rattle.mpi_types.specs.declared.argument.Joined.{Joined}
-use Rattle.mpi_types.specs.declared.argument.Sweep.{Sweep}
 use Rattle.mpi_types.specs.declared.argument.TreeMsg.{TreeMsg}
 use Rattle.mpi_types.specs.declared.group.Group.{Group}
 use Rattle.mpi_types.specs.Accepts.{is_same_ctx}
 use Rattle.mpi_types.proofs.AcceptLemmas.{contexts_tell}
-use Rattle.collectives.specs.declared.sends.TreeSend.{TreeSend}
 use Rattle.collectives.specs.Tree.{lowest_bit, parent_of, end_of, children}
 use Rattle.collectives.specs.Held.{are_from, here_of, others_of, put_message}
-use Rattle.collectives.specs.Sends.{down_send, down_sends, up_send}
-use Rattle.collectives.specs.Sweeps.{awaits, arrived, arrived_at, goes_on, looked, completed, closed_by, closed, handed_up, Went}
-use Rattle.collectives.specs.Weights.{weight, weight_by, weight_of_all, ArrivesAt, ArrivalsGetLighter}
+use Rattle.collectives.specs.Sends.{down_send}
+use Rattle.collectives.specs.Sweeps.{awaits, arrived_at, goes_on, looked, completed, closed_by, closed, handed_up, Went}
+use Rattle.collectives.specs.Weights.{weight, weight_by, weight_of_all, ArrivalsGetLighter}
 use Rattle.collectives.proofs.TreeLemmas.{lowest_pos, parent_less, children_lighter, first_lighter}
 
 -- messages to children

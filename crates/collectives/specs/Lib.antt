@@ -7,3 +7,4 @@ pub mod Slices
 pub mod Stages
 pub mod System
 pub mod Underway
+pub mod Clause

@@ -1,12 +1,11 @@
 -- The arguments of the members of a subtree, and the messages that bring them.
-use Rattle.std.specs.Prelude.{ℕ, zero, suc, ◌≡◌, ◌+◌, ◌-◌, ◌<◌, ◌≤◌, Bool, true, Option, Some, is_some, List, [], ◌∷◌, ◌++◌, filter, map}
+use Rattle.std.specs.Prelude.{ℕ, zero, suc, ◌≡◌, ◌+◌, ◌-◌, ◌<◌, ◌≤◌, true, Option, Some, is_some, List, [], ◌++◌}
 use Rattle.std.specs.Option.{option_to_list}
-use Rattle.std.specs.List.{list_all}
 use Rattle.mpi_types.specs.declared.argument.Arg.{Arg}
 use Rattle.mpi_types.specs.declared.argument.Direction.TheVariants.{Up, Down}
 use Rattle.mpi_types.specs.declared.argument.TreeMsg.{TreeMsg}
 use Rattle.mpi_types.specs.declared.context.Level.{Level}
-use Rattle.collectives.specs.Tree.{end_of, parent_of, children}
+use Rattle.collectives.specs.Tree.{end_of}
 
 -- what each member has given, if it has joined
 abbrev pub Given : Type 0

@@ -1,8 +1,6 @@
 -- How far the members of a communicator are with a collective.
-use Rattle.std.specs.Prelude.{ℕ, ◌≡◌, ◌+◌, ◌<◌, ◌≤◌, ◌==◌, ◌&&◌, ◌||◌, not, if◌then◌else◌, Bool, true, false, Option, is_some}
-use Rattle.std.specs.List.{list_all}
-use Rattle.collectives.specs.Tree.{parent_of, children}
-use Rattle.collectives.specs.Slices.{Given}
+use Rattle.std.specs.Prelude.{ℕ, ◌≡◌, ◌<◌, ◌==◌, ◌&&◌, ◌||◌, not, if◌then◌else◌, Bool, true, false}
+use Rattle.collectives.specs.Tree.{parent_of}
 
 -- Of a member: nothing went up from it; its message is under way to its parent; its parent holds it; its argument went on
 -- with its parent's; the list is under way to it; it has gathered the list.

@@ -1,5 +1,5 @@
 -- What the two calls of a member of a collective do.
-use Rattle.std.specs.Prelude.{ℕ, ◌≡◌, ◌≢◌, ◌<◌, ◌≤◌, ◌==◌, ◌&&◌, if◌then◌else◌, Bool, true, false, Option, Some, None, is_none, List, [], ◌∷◌, length, All}
+use Rattle.std.specs.Prelude.{ℕ, ◌≡◌, ◌<◌, ◌≤◌, ◌==◌, ◌&&◌, if◌then◌else◌, Bool, true, false, Option, Some, None, is_none, List, [], ◌∷◌, length, All}
 use Rattle.mpi_types.specs.declared.argument.Arg.{Arg}
 use Rattle.mpi_types.specs.declared.argument.Direction.{Direction}
 use Rattle.mpi_types.specs.declared.argument.Direction.TheVariants.{Up, Down}

@@ -1,20 +1,12 @@
 -- Ranks of a run with the messages of trees that are under way, any of which may arrive next.
-use Rattle.std.specs.Prelude.{ℕ, ◌≡◌, ◌≢◌, ◌<◌, ◌≤◌, ◌==◌, ◌&&◌, ◌||◌, not, if◌then◌else◌, Bool, true, false, Option, Some, None, is_some, List, [], ◌∷◌, ◌++◌, map, filter, length, get_or, IfSome}
+use Rattle.std.specs.Prelude.{ℕ, ◌≡◌, ◌≢◌, ◌<◌, ◌≤◌, ◌==◌, ◌&&◌, ◌||◌, not, if◌then◌else◌, Bool, true, false, List, [], ◌∷◌, map, filter}
 use Rattle.std.specs.List.{list_all}
-use Rattle.am_base.specs.declared.numbers.RankId.{RankId}
-use Rattle.mpi_types.specs.declared.argument.Arg.{Arg}
-use Rattle.mpi_types.specs.declared.argument.Joined.{Joined}
-use Rattle.mpi_types.specs.declared.argument.Sweep.{Sweep}
 use Rattle.mpi_types.specs.declared.argument.TreeMsg.{TreeMsg}
 use Rattle.mpi_types.specs.declared.context.Level.{Level}
-use Rattle.mpi_types.specs.declared.group.Group.{Group}
 use Rattle.mpi_types.specs.Accepts.{is_same_ctx}
-use Rattle.mpi_types.specs.Order.{IsTreeOrdered}
-use Rattle.collectives.specs.declared.sends.TreeSend.{TreeSend}
 use Rattle.collectives.specs.Tree.{parent_of, children}
 use Rattle.collectives.specs.Held.{is_up, is_up_of}
-use Rattle.collectives.specs.Sweeps.{Went, begun, arrived}
-use Rattle.collectives.specs.Slices.{Given, AreNumbered, HaveJoined, up_of, down_of, all_of}
+use Rattle.collectives.specs.Slices.{Given, up_of, down_of}
 use Rattle.collectives.specs.Stages.{Stage, is_apart, is_rising, is_held, is_falling, is_done, Fit}
 
 -- a message under way, with the rank to which it goes

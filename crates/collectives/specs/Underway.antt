@@ -1,11 +1,9 @@
 -- The ranks of a run, each with what it keeps of collectives, and the messages of trees under way, of which any may arrive
 -- next: for all contexts and positions at once.
-use Rattle.std.specs.Prelude.{ℕ, ◌≡◌, ◌≢◌, ◌<◌, ◌≤◌, ◌==◌, ◌&&◌, ◌⊎◌, if◌then◌else◌, Bool, true, false, Option, Some, None, is_some, List, [], ◌∷◌, ◌++◌, map, length, get_or}
-use Rattle.am_base.specs.declared.numbers.RankId.{RankId}
+use Rattle.std.specs.Prelude.{ℕ, ◌≡◌, ◌<◌, ◌≤◌, ◌==◌, ◌&&◌, if◌then◌else◌, Bool, true, false, Option, Some, None, is_some, List, [], ◌∷◌, ◌++◌, map, length, get_or}
 use Rattle.mpi_types.specs.declared.argument.Arg.{Arg}
 use Rattle.mpi_types.specs.declared.argument.Joined.{Joined}
 use Rattle.mpi_types.specs.declared.argument.Sweep.{Sweep}
-use Rattle.mpi_types.specs.declared.argument.TreeMsg.{TreeMsg}
 use Rattle.mpi_types.specs.declared.context.Level.{Level}
 use Rattle.mpi_types.specs.declared.group.Group.{Group}
 use Rattle.mpi_types.specs.Accepts.{is_same_ctx}

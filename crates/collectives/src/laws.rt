@@ -1,5 +1,6 @@
 //! Laws of the two calls.
 
+ghost use Rattle.collectives.specs.Clause.{ClauseHolds};
 ghost use Rattle.collectives.specs.Underway.{AllGatherAtRest, CollectivesGoOn, GathersAll};
 ghost use Rattle.collectives.specs.Weights.{ArrivalsGetLighter};
 
@@ -22,4 +23,9 @@ pub fn all_are_gathered()
 /// A law: with no message left, each member of a collective that all have joined has gathered.
 pub fn all_gather_at_rest()
     ensures { AllGatherAtRest }
+{}
+
+/// A law: what is so of a collective at each moment, in words of who has gathered and which messages there are.
+pub fn clause_holds()
+    ensures { ClauseHolds }
 {}

@@ -9,6 +9,8 @@ mod sends;
 mod sweep;
 mod tree;
 
-pub use laws::{all_are_gathered, all_gather_at_rest, arrivals_get_lighter, collectives_go_on};
+pub use laws::{
+    all_are_gathered, all_gather_at_rest, arrivals_get_lighter, clause_holds, collectives_go_on,
+};
 pub use sends::{SweepOut, TreeSend};
 pub use sweep::{arrive, begin};

@@ -1,11 +1,11 @@
 -- A list has one order by keys and old numbers, and the sort by the pair of both gives it.
-use Rattle.std.proofs.Common.{ℕ, ℤ, zero, suc, ◌≡◌, ◌≢◌, ◌+◌, ◌<◌, ◌≤◌, ◌⊎◌, inl, inr, ◌&&◌, ◌||◌, Bool, true, false, cond, List, [], ◌∷◌, length, get_or, refl, sym, subst, ap, ◌∙◌, arith}
-use Rattle.std.specs.Prelude.{All, AllPairs, Contains, IsPermutation, Some, None, slice_get, map, filter, int_lt, nat_lt, nat_eq, ◌<ℤ◌, take, sum_by}
+use Rattle.std.proofs.Common.{ℕ, ℤ, zero, suc, ◌≡◌, ◌≢◌, ◌+◌, ◌<◌, ◌≤◌, ◌⊎◌, inl, inr, Bool, true, false, cond, List, [], ◌∷◌, length, get_or, refl, sym, subst, ap, ◌∙◌, arith}
+use Rattle.std.specs.Prelude.{All, AllPairs, Contains, IsPermutation, Some, slice_get, map, filter, int_lt, nat_lt, nat_eq, ◌<ℤ◌, take, sum_by}
 use Rattle.std.specs.List.Sorted.{IsSortedBy}
 use Rattle.std.specs.Ordering.{int_eq, is_lt, nat_cmp, int_cmp, ordering_then}
 use Rattle.std.specs.declared.cmp.Ordering.{Ordering}
 use Rattle.std.specs.declared.cmp.Ordering.TheVariants.{Less, Equal, Greater}
-use Rattle.std.proofs.lemmas.Bool.{cases_Bool, eq-eqb, eqb-true, ne_eqb, cond-true, cond-false, or_parts, and_cases, ltb-false, true≢false, false_from_ne_true}
+use Rattle.std.proofs.lemmas.Bool.{cases_Bool, eq-eqb, eqb-true, ne_eqb, cond-true, cond-false, ltb-false, true≢false, false_from_ne_true}
 use Rattle.std.proofs.lemmas.Bool.Decides.{Decides-int_eq}
 use Rattle.std.proofs.lemmas.Cmp.{nat_cmp_total, int_cmp_total, on_total, then_total}
 use Rattle.std.specs.Cmp.{IsTotalOrder}
@@ -20,7 +20,7 @@ use Rattle.am_base.specs.declared.numbers.RankId.{RankId}
 use Rattle.mpi_types.specs.declared.context.Level.{Level}
 use Rattle.mpi_types.specs.declared.group.Group.{Group}
 use Rattle.mpi_types.specs.declared.group.SplitArg.{SplitArg}
-use Rattle.mpi_types.specs.Groups.{ComesBefore, comes_before, ordered, of_colour, IsInMemberOrder, IsOrderOf, child_of, rank_of, split_of}
+use Rattle.mpi_types.specs.Groups.{ComesBefore, of_colour, IsInMemberOrder, IsOrderOf, child_of, rank_of, split_of}
 use Rattle.mpi_types.specs.declared.constants.TheConstants.{UNDEFINED}
 use Rattle.mpi_types.proofs.GroupLemmas.{splits_are_ordered}
 use Rattle.mpi_types.proofs.ListLemmas.{AllPairs-head, AllPairs-tail}

@@ -1,4 +1,4 @@
-use Rattle.std.proofs.Common.{ℕ, ◌≡◌, ◌≤◌, ◌+◌, None, Some, sym, ◌∙◌, ap, arith}
+use Rattle.std.proofs.Common.{◌≡◌, None, Some, sym, ◌∙◌, ap, arith}
 use Rattle.collectives.specs.Held.{following, ends_at}
 use Rattle.collectives.proofs.HeldLemmas.{step_some, step_none, own_first}
 use Rattle.collectives.proofs.held.holds_all.Goals as goal

@@ -1,5 +1,4 @@
-use Rattle.std.proofs.Common.{ℕ, ◌≡◌, ◌++◌, ◌-◌, ◌+◌, List, [], ◌∷◌, map, sym, ◌∙◌, ap, arith, rules}
-use Rattle.collectives.specs.Tree.{children, children_from, end_of}
+use Rattle.std.proofs.Common.{◌++◌, [], ◌∷◌, ◌∙◌, ap}
 use Rattle.collectives.specs.Sends.{down_send}
 use Rattle.collectives.proofs.SweepLemmas.{sends_start, sends_step}
 use Rattle.collectives.proofs.sends.down_sends.Goals as goal

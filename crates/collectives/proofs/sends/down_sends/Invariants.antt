@@ -1,5 +1,5 @@
-use Rattle.std.proofs.Common.{◌≡◌, ◌≤◌, ◌++◌, ◌-◌, ◌<◌, map}
-use Rattle.collectives.specs.Tree.{children_from, children, end_of}
+use Rattle.std.proofs.Common.{◌≡◌, ◌≤◌, ◌++◌, ◌-◌, map}
+use Rattle.collectives.specs.Tree.{children_from, children}
 use Rattle.collectives.specs.Sends.{down_send}
 use Rattle.collectives.proofs.sends.down_sends.Given as goal
 

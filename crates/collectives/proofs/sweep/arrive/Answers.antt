@@ -1,8 +1,4 @@
-use Rattle.std.proofs.Common.{◌≡◌, ◌<◌, sym, ◌∙◌, subst, ℕ, rules}
-use Rattle.std.specs.Prelude.{IfSome, Option}
-use Rattle.std.specs.Option.{option_copied}
-use Rattle.mpi_types.specs.declared.group.Group.{Group}
-use Rattle.collectives.specs.Sweeps.{IsOfCtx, IsMemberOf}
+use Rattle.std.proofs.Common.{◌<◌, sym, ◌∙◌, subst, ℕ}
 use Rattle.collectives.proofs.SweepLemmas.{joined_within}
 use Rattle.collectives.proofs.sweep.arrive.Goals as goal
 

@@ -1,4 +1,4 @@
-use Rattle.std.proofs.Common.{ℕ, ◌<◌, ◌≢◌, arith}
+use Rattle.std.proofs.Common.{◌<◌, arith}
 use Rattle.collectives.proofs.TreeLemmas.{lowest_at_most, lowest_pos}
 use Rattle.collectives.proofs.tree.end_of.Goals as goal
 

@@ -1,18 +1,11 @@
-use Rattle.std.proofs.Common.{rules, ◌≡◌, ◌<◌, All, length, ℕ, ℤ, pos, sym, subst, ap, ◌∙◌, List, ◌++◌, [], ◌∷◌, Some, refl, arith, map}
-use Rattle.std.specs.Prelude.{slice_index_or, get_or, false}
+use Rattle.std.proofs.Common.{rules, ◌<◌, All, length, pos, sym, subst, ap, ◌∙◌, List, arith}
+use Rattle.std.specs.Prelude.{get_or}
 use Rattle.std.proofs.Common.{to_z, of_z}
 use Rattle.std.specs.Int.{w32}
-use Rattle.std.specs.Ordering.{int_eq}
 use Rattle.std.specs.Int.RustNames.{FitsSigned}
 use Rattle.std.proofs.lemmas.Int.{to_z-of_z}
-use Rattle.am_base.specs.declared.numbers.RankId.{RankId}
-use Rattle.mpi_types.specs.declared.constants.TheConstants.{UNDEFINED}
-use Rattle.mpi_types.specs.declared.context.Level.{Level}
-use Rattle.mpi_types.specs.declared.group.Group.{Group}
 use Rattle.mpi_types.specs.declared.group.SplitArg.{SplitArg}
-use Rattle.mpi_types.specs.Groups.{IsInMemberOrder, child_of, dup_of, of_colour, rank_of, split_of}
-use Rattle.comms.specs.Members.{AreOfMembers, colour_at}
-use Rattle.comms.proofs.OrderLemmas.{members_in_order, members_within, split_result}
+use Rattle.comms.proofs.OrderLemmas.{members_within, split_result}
 use Rattle.comms.proofs.making.split.Goals as goal
 
 pub ranks_of-requires : goal.ranks_of-requires
