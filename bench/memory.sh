@@ -9,17 +9,17 @@ while read -r call size turns; do
   tenths=$((size * turns * 10 / taken))
   echo "$call, $size bytes: $((tenths / 10)).$((tenths % 10)) gigabytes a second (mean of $turns)"
 done <<'CALLS'
-copy 256 2000000
-copy 4096 2000000
+copy 256 20000000
+copy 4096 5000000
 copy 196608 40000
 copy 327680 40000
-fill 256 2000000
-fill 4096 2000000
+fill 256 20000000
+fill 4096 5000000
 fill 393216 40000
-write 256 2000000
-write 4096 2000000
+write 256 20000000
+write 4096 5000000
 write 393216 40000
-view 256 2000000
-view 4096 200000
-view 393216 2000
+view 256 10000000
+view 4096 500000
+view 393216 5000
 CALLS
