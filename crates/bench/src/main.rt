@@ -4,7 +4,9 @@
 mod failed;
 mod heaps;
 mod lexing;
+mod libraries;
 mod matches;
+mod memories;
 mod parsing;
 mod plans;
 mod schedules;

@@ -1,6 +1,8 @@
 //! What is to be done: by which figure, how large, and how often.
 use crate::failed::Failed;
 use crate::heaps::{self, Pattern};
+use crate::libraries::{self, Function};
+use crate::memories::{self, Bulk};
 use crate::parsing::{self, Shape};
 use crate::plans::{self, Rule};
 use crate::{lexing, matches, schedules};
@@ -14,6 +16,8 @@ pub enum Figure {
     Heap(Pattern),
     Balance(Rule),
     Schedule,
+    Memory(Bulk),
+    Library(Function),
 }
 
 #[derive(Clone, Copy)]
@@ -24,7 +28,7 @@ pub struct Work {
 }
 
 /// Each figure once, small: its size, and its turns.
-pub const SMALL: [(Figure, u32, u32); 12] = [
+pub const SMALL: [(Figure, u32, u32); 18] = [
     (Figure::Lex, 4, 3),
     (Figure::Parse(Shape::Flat), 2, 3),
     (Figure::Parse(Shape::Deep), 2, 3),
@@ -37,6 +41,12 @@ pub const SMALL: [(Figure, u32, u32); 12] = [
     (Figure::Balance(Rule::Greedy), 100, 2),
     (Figure::Balance(Rule::Refine), 100, 2),
     (Figure::Schedule, 10, 2),
+    (Figure::Memory(Bulk::Copy), 1000, 3),
+    (Figure::Memory(Bulk::Fill), 1000, 3),
+    (Figure::Memory(Bulk::Write), 1000, 3),
+    (Figure::Memory(Bulk::View), 1000, 3),
+    (Figure::Library(Function::Printf), 10, 3),
+    (Figure::Library(Function::Memcpy), 1000, 3),
 ];
 
 impl Work {
@@ -63,6 +73,10 @@ impl Work {
             Figure::Heap(pattern) => heaps::calls_answered(alloc, pattern, self.size, self.turns),
             Figure::Balance(rule) => plans::places_planned(alloc, rule, self.size, self.turns),
             Figure::Schedule => schedules::events_read(alloc, self.size, self.turns),
+            Figure::Memory(bulk) => memories::bytes_moved(alloc, bulk, self.size, self.turns),
+            Figure::Library(function) => {
+                libraries::bytes_given(alloc, function, self.size, self.turns)
+            }
         }
     }
 
@@ -81,6 +95,12 @@ impl Work {
             Figure::Balance(Rule::Greedy) => ("balance greedy", "places"),
             Figure::Balance(Rule::Refine) => ("balance refine", "places"),
             Figure::Schedule => ("schedule", "events"),
+            Figure::Memory(Bulk::Copy) => ("memory copy", "bytes"),
+            Figure::Memory(Bulk::Fill) => ("memory fill", "bytes"),
+            Figure::Memory(Bulk::Write) => ("memory write", "bytes"),
+            Figure::Memory(Bulk::View) => ("memory view", "bytes"),
+            Figure::Library(Function::Printf) => ("library printf", "bytes"),
+            Figure::Library(Function::Memcpy) => ("library memcpy", "bytes"),
         }
     }
 }
@@ -94,6 +114,8 @@ impl Figure {
             ("parse", _) => Shape::of(kind).map(Figure::Parse),
             ("heap", _) => Pattern::of(kind).map(Figure::Heap),
             ("balance", _) => Rule::of(kind).map(Figure::Balance),
+            ("memory", _) => Bulk::of(kind).map(Figure::Memory),
+            ("library", _) => Function::of(kind).map(Figure::Library),
             _ => None,
         }
     }
