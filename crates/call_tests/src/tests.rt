@@ -1,0 +1,5 @@
+//! The cases, crate by crate.
+
+mod communicators;
+mod outputs;
+mod places;
