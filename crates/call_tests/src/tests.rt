@@ -3,3 +3,4 @@
 mod communicators;
 mod outputs;
 mod places;
+mod sweeps;
