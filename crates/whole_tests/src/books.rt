@@ -14,7 +14,7 @@ use mpi_types::{
 };
 use std::alloc::{AllocError, Global};
 
-pub fn play(alloc: Global, out: &mut String, group: &[&str]) -> Result<(), AllocError> {
+pub(crate) fn play(alloc: Global, out: &mut String, group: &[&str]) -> Result<(), AllocError> {
     books_agree::<ListBook, ListBook>();
     let mut book = ListBook::new(alloc);
     let played = play_on(alloc, &mut book, out, group);
@@ -73,7 +73,7 @@ fn show_asked(
 }
 
 /// The context of that number: the world's, or that of a duplicate of the world.
-pub fn context(alloc: Global, number: u32) -> Result<Ctx, AllocError> {
+pub(crate) fn context(alloc: Global, number: u32) -> Result<Ctx, AllocError> {
     let world = Ctx::world(alloc);
     if number == 0 {
         return Ok(world);
@@ -139,7 +139,7 @@ fn arrival_of(alloc: Global, line: &str) -> Result<Option<BookCall>, AllocError>
     Ok(Some(BookCall::Arrive(message)))
 }
 
-pub fn message_of(
+pub(crate) fn message_of(
     alloc: Global,
     number: u32,
     member: u8,

@@ -8,7 +8,7 @@ use crate::{
 use std::alloc::{AllocError, Global};
 
 /// The file's text, behind the word's name, with an answer under each case.
-pub fn shown(alloc: Global, word: Word, text: &str) -> Result<String, AllocError> {
+pub(crate) fn shown(alloc: Global, word: Word, text: &str) -> Result<String, AllocError> {
     let mut out = String::new(alloc);
     write!(out, "== {}\n", word.name())?;
     let mut group = Vec::new(alloc);
@@ -48,7 +48,7 @@ fn play(alloc: Global, out: &mut String, word: Word, group: &[&str]) -> Result<(
 }
 
 /// Shows a line, and begins the answer if it is a case.
-pub fn begins(out: &mut String, line: &str) -> Result<bool, AllocError> {
+pub(crate) fn begins(out: &mut String, line: &str) -> Result<bool, AllocError> {
     out.push_str(line)?;
     out.push_str("\n")?;
     if line.starts_with("# ") {

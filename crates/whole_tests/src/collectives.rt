@@ -8,7 +8,7 @@ use am_base::Bytes;
 use mpi_types::{Arg, Collective, Datatype, Operation, collected, copied_args};
 use std::alloc::{AllocError, Global};
 
-pub fn play(alloc: Global, out: &mut String, group: &[&str]) -> Result<(), AllocError> {
+pub(crate) fn play(alloc: Global, out: &mut String, group: &[&str]) -> Result<(), AllocError> {
     let mut args = Vec::new(alloc);
     let played = play_on(alloc, &mut args, out, group);
     drop(args);

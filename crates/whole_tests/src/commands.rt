@@ -4,7 +4,7 @@ use crate::lines::{show_bytes, unescaped};
 use run_words::{Command, WordsError, journal_name, read_words};
 use std::alloc::{AllocError, Global};
 
-pub fn answer(alloc: Global, out: &mut String, line: &str) -> Result<(), AllocError> {
+pub(crate) fn answer(alloc: Global, out: &mut String, line: &str) -> Result<(), AllocError> {
     let words = words_of(alloc, line)?;
     match read_words(alloc, &words) {
         Ok(command) => show_command(out, &command)?,

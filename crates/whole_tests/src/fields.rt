@@ -10,7 +10,7 @@ use am_base::{
 };
 use std::alloc::{AllocError, Global};
 
-pub fn answer(alloc: Global, out: &mut String, line: &str) -> Result<(), AllocError> {
+pub(crate) fn answer(alloc: Global, out: &mut String, line: &str) -> Result<(), AllocError> {
     match word_at(line, 0) {
         "decimal" => show_decimal(alloc, out, number_at(line, 1)),
         "signed" => show_signed(alloc, out, i32_at(line, 1)),

@@ -16,7 +16,7 @@ use rank_range::{
 };
 use std::alloc::{AllocError, Global};
 
-pub fn play(alloc: Global, out: &mut String, group: &[&str]) -> Result<(), AllocError> {
+pub(crate) fn play(alloc: Global, out: &mut String, group: &[&str]) -> Result<(), AllocError> {
     let mut memory: FlatMem = with_heap(alloc, rank_of(group))?;
     let mut blocks = Vec::new(alloc);
     let played = play_on(&mut memory, &mut blocks, out, group);

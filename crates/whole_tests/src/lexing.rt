@@ -4,7 +4,7 @@ use crate::lines::{show_bytes, unescaped};
 use c_lex::{Headers, Keyword, LexError, Mark, NumberType, Token, TokenKind, lex};
 use std::alloc::{AllocError, Global};
 
-pub fn answer(alloc: Global, out: &mut String, line: &str) -> Result<(), AllocError> {
+pub(crate) fn answer(alloc: Global, out: &mut String, line: &str) -> Result<(), AllocError> {
     let source = unescaped(alloc, line)?;
     if source.len() >= 1 << 31 {
         return out.push_str("too long");

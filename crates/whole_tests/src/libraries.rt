@@ -17,7 +17,7 @@ use rank_range::{
 };
 use std::alloc::{AllocError, Global};
 
-pub fn play(alloc: Global, out: &mut String, group: &[&str]) -> Result<(), AllocError> {
+pub(crate) fn play(alloc: Global, out: &mut String, group: &[&str]) -> Result<(), AllocError> {
     let mut memory = FlatMem::fresh(alloc, rank_of(group))?;
     let played = play_on(alloc, &mut memory, out, group);
     drop(memory);

@@ -5,40 +5,40 @@ ghost use Rattle.std.specs.Prelude.{◌<◌};
 use std::alloc::{AllocError, Global};
 
 /// The word of that place, from 0 on, and an empty one where there is none.
-pub fn word_at(line: &str, place: usize) -> &str {
+pub(crate) fn word_at(line: &str, place: usize) -> &str {
     line.split(' ').nth(place).unwrap_or("")
 }
 
 /// The number that a word says, in decimal or behind `0x`.
-pub fn number(word: &str) -> Option<u64> {
+pub(crate) fn number(word: &str) -> Option<u64> {
     match word.strip_prefix("0x") {
         Some(digits) => u64::from_str_radix(digits, 16).ok(),
         None => word.parse().ok(),
     }
 }
 
-pub fn number_at(line: &str, place: usize) -> Option<u64> {
+pub(crate) fn number_at(line: &str, place: usize) -> Option<u64> {
     number(word_at(line, place))
 }
 
-pub fn u32_at(line: &str, place: usize) -> Option<u32> {
+pub(crate) fn u32_at(line: &str, place: usize) -> Option<u32> {
     u32::try_from(number_at(line, place)?).ok()
 }
 
-pub fn u16_at(line: &str, place: usize) -> Option<u16> {
+pub(crate) fn u16_at(line: &str, place: usize) -> Option<u16> {
     u16::try_from(number_at(line, place)?).ok()
 }
 
-pub fn u8_at(line: &str, place: usize) -> Option<u8> {
+pub(crate) fn u8_at(line: &str, place: usize) -> Option<u8> {
     u8::try_from(number_at(line, place)?).ok()
 }
 
-pub fn i32_at(line: &str, place: usize) -> Option<i32> {
+pub(crate) fn i32_at(line: &str, place: usize) -> Option<i32> {
     word_at(line, place).parse().ok()
 }
 
 /// What stands behind the first blank.
-pub fn behind_first(line: &str) -> &str {
+pub(crate) fn behind_first(line: &str) -> &str {
     match line.split_once(' ') {
         Some((_, rest)) => rest,
         None => "",
@@ -46,12 +46,12 @@ pub fn behind_first(line: &str) -> &str {
 }
 
 /// The answer to a line that is no case.
-pub fn no_case(out: &mut String) -> Result<(), AllocError> {
+pub(crate) fn no_case(out: &mut String) -> Result<(), AllocError> {
     out.push_str("no case")
 }
 
 /// Bytes as text: a line's end, a backslash, and what is no printable character by escapes.
-pub fn show_bytes(out: &mut String, bytes: &[u8]) -> Result<(), AllocError> {
+pub(crate) fn show_bytes(out: &mut String, bytes: &[u8]) -> Result<(), AllocError> {
     for byte in bytes {
         match *byte {
             b'\n' => out.push_str("\\n")?,
@@ -64,7 +64,7 @@ pub fn show_bytes(out: &mut String, bytes: &[u8]) -> Result<(), AllocError> {
 }
 
 /// Bytes as hexadecimal numbers, with a blank between two.
-pub fn show_hexadecimal(out: &mut String, bytes: &[u8]) -> Result<(), AllocError> {
+pub(crate) fn show_hexadecimal(out: &mut String, bytes: &[u8]) -> Result<(), AllocError> {
     for (at, byte) in bytes.iter().enumerate() {
         if at > 0 {
             out.push_str(" ")?;
@@ -190,7 +190,7 @@ fn digit_of(byte: u8) -> u8
 }
 
 /// The bytes of a text with escapes: `\n`, `\r`, `\t`, `\\`, `\xHH`, `\e` for nothing, and `\<62|x\>` for 62 times `x`.
-pub fn unescaped(alloc: Global, text: &str) -> Result<Vec<u8>, AllocError> {
+pub(crate) fn unescaped(alloc: Global, text: &str) -> Result<Vec<u8>, AllocError> {
     let mut reader = Reader {
         out: Vec::new(alloc),
         piece: Vec::new(alloc),

@@ -17,7 +17,7 @@ use rank_range::{
 };
 use std::alloc::{AllocError, Global};
 
-pub fn play(alloc: Global, out: &mut String, group: &[&str]) -> Result<(), AllocError> {
+pub(crate) fn play(alloc: Global, out: &mut String, group: &[&str]) -> Result<(), AllocError> {
     let mut memory = FlatMem::fresh(alloc, rank_of(group))?;
     let played = play_on(alloc, &mut memory, out, group);
     drop(memory);
@@ -40,7 +40,7 @@ fn play_on(
 }
 
 /// The rank that a group's first line names; 0 where it names none.
-pub fn rank_of(group: &[&str]) -> RankId {
+pub(crate) fn rank_of(group: &[&str]) -> RankId {
     for line in group {
         if line.starts_with("rank ") {
             return RankId(u16_at(line, 1).unwrap_or(0));
@@ -93,7 +93,7 @@ fn show_layout(out: &mut String) -> Result<(), AllocError> {
 }
 
 /// The width that a word says, in bytes.
-pub fn width_at(line: &str, place: usize) -> Option<Width> {
+pub(crate) fn width_at(line: &str, place: usize) -> Option<Width> {
     match word_at(line, place) {
         "1" => Some(Width::One),
         "2" => Some(Width::Two),
@@ -188,7 +188,7 @@ fn answer_number(memory: &mut FlatMem, out: &mut String, line: &str) -> Result<(
 }
 
 /// Whether so many bytes lie in the range there.
-pub fn is_within(at: u32, width: Width) -> bool
+pub(crate) fn is_within(at: u32, width: Width) -> bool
     ensures { result ≡ true → at + bytes_in width ≤ range_bytes }
 {
     u64::from(at) + width.bytes() as u64 <= u64::from(RANGE_BYTES)

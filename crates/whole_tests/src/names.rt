@@ -7,7 +7,7 @@ use am_base::{
 };
 use std::alloc::{AllocError, Global};
 
-pub fn answer(alloc: Global, out: &mut String, line: &str) -> Result<(), AllocError> {
+pub(crate) fn answer(alloc: Global, out: &mut String, line: &str) -> Result<(), AllocError> {
     match word_at(line, 0) {
         "mpi" => show_item(out, Header::Mpi, word_at(line, 1)),
         "stdio" => show_item(out, Header::Stdio, word_at(line, 1)),

@@ -18,7 +18,7 @@ struct Outside {
     sure_sink: SureSink,
 }
 
-pub fn play(alloc: Global, out: &mut String, group: &[&str]) -> Result<(), AllocError> {
+pub(crate) fn play(alloc: Global, out: &mut String, group: &[&str]) -> Result<(), AllocError> {
     let mut outside = Outside {
         files: MemFiles::new(alloc),
         sure_files: SureFiles::new(alloc),
@@ -142,7 +142,7 @@ fn show_say(
 
 /// Writes a file of the host and reads it back, as long as that is and up to one byte past a limit. A folder that isn't
 /// there is a fault each time.
-pub fn show_host<R: std::rt::Files>(
+pub(crate) fn show_host<R: std::rt::Files>(
     rt: &R,
     alloc: Global,
     out: &mut String,

@@ -17,7 +17,7 @@ enum Sight {
     Beginnings,
 }
 
-pub fn answer(alloc: Global, out: &mut String, line: &str) -> Result<(), AllocError> {
+pub(crate) fn answer(alloc: Global, out: &mut String, line: &str) -> Result<(), AllocError> {
     let (sight, text) = sight_of(line);
     let source = unescaped(alloc, text)?;
     if source.len() >= 1 << 31 {

@@ -6,7 +6,7 @@ use rank_range::access::{copy, fill, view, write};
 use rank_range::{BadAddress, FlatMem, Mem, base, place_of_bytes};
 use std::alloc::{AllocError, Global};
 
-pub fn answer(
+pub(crate) fn answer(
     alloc: Global,
     memory: &mut FlatMem,
     out: &mut String,

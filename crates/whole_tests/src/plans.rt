@@ -9,7 +9,7 @@ use am_base::{ProcId, RankId};
 use balancers::{Load, Plan, greedy, refine, rotate};
 use std::alloc::{AllocError, Global};
 
-pub fn answer(alloc: Global, out: &mut String, line: &str) -> Result<(), AllocError> {
+pub(crate) fn answer(alloc: Global, out: &mut String, line: &str) -> Result<(), AllocError> {
     let Some((front, table)) = line.split_once(" : ") else {
         return no_case(out);
     };

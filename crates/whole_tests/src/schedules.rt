@@ -15,7 +15,7 @@ enum Found {
     Many(u32),
 }
 
-pub fn answer(alloc: Global, out: &mut String, line: &str) -> Result<(), AllocError> {
+pub(crate) fn answer(alloc: Global, out: &mut String, line: &str) -> Result<(), AllocError> {
     match word_at(line, 0) {
         "read" => show_read(alloc, out, behind_first(line)),
         "count" => show_count(alloc, out, behind_first(line)),

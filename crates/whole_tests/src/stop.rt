@@ -20,7 +20,7 @@ pub enum Stop {
 
 impl Stop {
     /// The exit status.
-    pub fn status(&self) -> u8 {
+    pub(crate) fn status(&self) -> u8 {
         match self {
             Stop::Arguments | Stop::Words => 1,
             Stop::File => 2,

@@ -12,7 +12,7 @@ use mpi_types::{
 };
 use std::alloc::{AllocError, Global};
 
-pub fn answer(alloc: Global, out: &mut String, line: &str) -> Result<(), AllocError> {
+pub(crate) fn answer(alloc: Global, out: &mut String, line: &str) -> Result<(), AllocError> {
     match word_at(line, 0) {
         "datatype" => show_datatype(out, i32_at(line, 1)),
         "operation" => show_operation(out, i32_at(line, 1)),

@@ -5,4 +5,4 @@ mod page;
 mod units;
 mod words;
 
-pub use units::shown;
+pub(crate) use units::shown;

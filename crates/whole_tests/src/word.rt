@@ -47,7 +47,7 @@ pub const ALL: [Word; 13] = [
 ];
 
 impl Word {
-    pub fn of(name: &str) -> Option<Word> {
+    pub(crate) fn of(name: &str) -> Option<Word> {
         for word in ALL {
             if word.name() == name {
                 return Some(word);
@@ -56,7 +56,7 @@ impl Word {
         None
     }
 
-    pub fn name(self) -> &'static str {
+    pub(crate) fn name(self) -> &'static str {
         match self {
             Word::Fields => "fields",
             Word::Names => "names",
@@ -75,7 +75,7 @@ impl Word {
     }
 
     /// The name of its data file.
-    pub fn file(self) -> &'static str {
+    pub(crate) fn file(self) -> &'static str {
         match self {
             Word::Fields => "fields.txt",
             Word::Names => "names.txt",
@@ -94,12 +94,12 @@ impl Word {
     }
 
     /// Whether it is the layer of the host's files.
-    pub fn is_outside(self) -> bool {
+    pub(crate) fn is_outside(self) -> bool {
         matches!(self, Word::Files)
     }
 
     /// Calls the layer's laws, which do nothing when they run.
-    pub fn call_laws(self) {
+    pub(crate) fn call_laws(self) {
         match self {
             Word::Fields => puts_are_taken_back(),
             Word::Words => {

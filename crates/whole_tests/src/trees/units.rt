@@ -178,7 +178,7 @@ fn show_external(page: &mut Page, external: &External) -> Result<(), AllocError>
 }
 
 /// A unit as text, with or without the numbers of its tokens.
-pub fn shown(alloc: Global, unit: &Unit, has_numbers: bool) -> Result<String, AllocError> {
+pub(crate) fn shown(alloc: Global, unit: &Unit, has_numbers: bool) -> Result<String, AllocError> {
     let mut page = Page::new(alloc, has_numbers);
     for external in unit.externals.as_slice() {
         show_external(&mut page, external)?;
