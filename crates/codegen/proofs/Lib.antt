@@ -8,3 +8,4 @@ pub mod Measuring
 pub mod Shaping
 pub mod Acting
 pub mod Meaning
+pub mod Bounding

@@ -142,7 +142,7 @@ stops_main code program segment main main_is code_is covered simple rank n answe
     (covered.function, covered.function_is, covered.body_is) in
     let defined : body_of program main.function ≡ Some body =
     ap (λ o. elim o [ None ↦ None | Some function ↦ Some (body_or_none function.body) ]) f.1 ∙ ap (λ b. Some (body_or_none b)) f.2 in
-    let sp = spans_all code (program_part program segment main) code_is.instrs in
+    let sp = spans_all code.instrs (program_part program segment main) code_is.instrs in
     let first = spans_first (Stands code) 0 _ (instr.Call main.function (parameter_count program main.function)) (functions_part object program.functions) sp in
     let there = found object code program.functions 1 _ main.function f.0 f.1 first.1 in
     let entry : CodeFunction = entry_at there.0 (Some body) in

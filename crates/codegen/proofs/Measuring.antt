@@ -20,11 +20,11 @@ use Rattle.c_types.specs.declared.expression.Counted.{Counted}
 use Rattle.c_types.specs.declared.expression.Given.{Given}
 use Rattle.c_types.specs.declared.expression.Given.TheVariants.{New, Old}
 use Rattle.c_model.specs.Run.{counted_kind}
-use Rattle.codegen.specs.Layout.{Part, nothing, one, ◌then◌, over, negation, truths, jump_where, in_order, operand_part, converted, on_words, scaled, offset_part, moving, against, amount, given_part, step_part, expr_step, expr_part}
-use Rattle.codegen.specs.Sizes.{total, operand_size, step_size, expr_size_step, expr_size}
+use Rattle.codegen.specs.Layout.{Part, nothing, one, ◌then◌, over, negation, truths, jump_where, in_order, operand_part, converted, on_words, scaled, offset_part, moving, against, amount, given_part, step_part, expr_step, expr_part, operand_code, step_code}
+use Rattle.codegen.specs.Sizes.{total, operand_size, step_size, expr_size_step, expr_size, operand_sized, step_sized}
 use Rattle.codegen.specs.Covered.{all_true, operand_covered, step_covered, expr_covered_step, expr_covered}
 use Rattle.codegen.proofs.Spanning.{HasAt, IsCalm, AreCalm, Saying}
-use Rattle.codegen.proofs.Valuing.{operand_code, step_code, operand_code_roll, step_code_roll, expr_code_roll}
+use Rattle.codegen.proofs.Valuing.{operand_code_roll, step_code_roll, expr_code_roll}
 
 -- a jump leads forward
 abbrev pub IsForward : Saying
@@ -154,29 +154,23 @@ measured_count c direction Old =
     (measured_one (instr.Extend (counted_kind c)) tt (λ place. tt)))))))))
 
 -- sizes and coverings of operands and steps
-operand_sized : Operand → ℕ
-operand_sized = fold-Operand ℕ ℕ ℕ operand_size step_size expr_size_step
-
-step_sized : Step → ℕ
-step_sized = fold-Step ℕ ℕ ℕ operand_size step_size expr_size_step
-
 operand_is_covered : Operand → Bool
 operand_is_covered = fold-Operand Bool Bool Bool operand_covered step_covered expr_covered_step
 
 step_is_covered : Step → Bool
 step_is_covered = fold-Step Bool Bool Bool operand_covered step_covered expr_covered_step
 
-operand_size_roll : (x : Operand-F Operand Step Expr)
+pub operand_size_roll : (x : Operand-F Operand Step Expr)
     → operand_sized (roll-Operand x) ≡ operand_size (map-Operand Operand Step Expr ℕ ℕ ℕ operand_sized step_sized expr_size x)
 unfolding expr_size operand_sized step_sized
 operand_size_roll x = fold-roll-Operand ℕ ℕ ℕ operand_size step_size expr_size_step x
 
-step_size_roll : (x : Step-F Operand Step Expr)
+pub step_size_roll : (x : Step-F Operand Step Expr)
     → step_sized (roll-Step x) ≡ step_size (map-Step Operand Step Expr ℕ ℕ ℕ operand_sized step_sized expr_size x)
 unfolding expr_size operand_sized step_sized
 step_size_roll x = fold-roll-Step ℕ ℕ ℕ operand_size step_size expr_size_step x
 
-expr_size_roll : (x : Expr-F Operand Step Expr)
+pub expr_size_roll : (x : Expr-F Operand Step Expr)
     → expr_size (roll-Expr x) ≡ expr_size_step (map-Expr Operand Step Expr ℕ ℕ ℕ operand_sized step_sized expr_size x)
 unfolding expr_size operand_sized step_sized
 expr_size_roll x = fold-roll-Expr ℕ ℕ ℕ operand_size step_size expr_size_step x

@@ -26,9 +26,12 @@ pub record Spans (says : Saying) (place : ℕ) (part : Part) (after : ℕ) : Typ
   pub instrs : HasAt says place (part place)
   pub after_is : after ≡ place + length (part place)
 
--- the instruction stands in the code
+-- the instruction stands in a list, or in the code
+abbrev pub In : List Instr → Saying
+In instrs place i = slice_get instrs place ≡ Some i
+
 abbrev pub Stands : Code → Saying
-Stands code place i = slice_get code.instrs place ≡ Some i
+Stands code = In code.instrs
 
 -- it calls no function, and tells no line
 abbrev pub IsCalm : Instr → Type 0
@@ -123,20 +126,20 @@ module _ (says : Saying) where
   unfolding truths
   spans_truths place after decisive s = at_four place after _ _ _ _ s.instrs s.after_is
 
--- instructions that stand in code
-has_all : (is pre : List Instr) (code : Code) → code.instrs ≡ pre ++ is → HasAt (Stands code) (length pre) is
-has_all [] pre code e = tt
-has_all (i ∷ is) pre code e =
+-- instructions that stand in a list
+has_all : (is pre all : List Instr) → all ≡ pre ++ is → HasAt (In all) (length pre) is
+has_all [] pre all e = tt
+has_all (i ∷ is) pre all e =
     let within : length pre < length (pre ++ i ∷ is) = omega (arith, length-append pre (i ∷ is)) in
     let here = slice_get-get_or (pre ++ i ∷ is) (length pre) i within ∙ ap Some (get_or-append_seam pre i is i) in
     let n : length (pre ++ i ∷ []) ≡ length pre + 1 = omega (arith, length-append pre (i ∷ [])) in
-    let rest = has_all is (pre ++ i ∷ []) code (e ∙ sym (append_assoc pre (i ∷ []) is)) in
-    (ap (λ l. slice_get l (length pre)) e ∙ here, subst (λ m. HasAt (Stands code) m is) n rest)
+    let rest = has_all is (pre ++ i ∷ []) all (e ∙ sym (append_assoc pre (i ∷ []) is)) in
+    (ap (λ l. slice_get l (length pre)) e ∙ here, subst (λ m. HasAt (In all) m is) n rest)
 
 -- the whole code
-pub spans_all : (code : Code) (part : Part) → code.instrs ≡ part 0 → Spans (Stands code) 0 part (length code.instrs)
-spans_all code part is = record {
-  instrs = has_all (part 0) [] code is;
+pub spans_all : (instrs : List Instr) (part : Part) → instrs ≡ part 0 → Spans (In instrs) 0 part (length instrs)
+spans_all instrs part is = record {
+  instrs = has_all (part 0) [] instrs is;
   after_is = let e : length (part 0) ≡ 0 + length (part 0) = omega arith in ap length is ∙ e;
 }
 

@@ -16,24 +16,18 @@ use Rattle.c_types.specs.Need.{in_arguments, in_call, operand_step, step_step, b
 use Rattle.c_model.specs.Outcome.{Rest, Here}
 use Rattle.c_model.specs.Run.{Calling, Surroundings, Value, in_order_of, operand_value, step_value, steps_value, value_step, value}
 use Rattle.c_model.specs.Calls.{library_call, mpi_call}
-use Rattle.codegen.specs.Layout.{Part, nothing, one, ◌then◌, in_order, operand_part, step_part, expr_step, expr_part}
+use Rattle.codegen.specs.Layout.{Part, nothing, one, ◌then◌, in_order, operand_part, step_part, expr_step, expr_part, operand_code, step_code}
 use Rattle.codegen.proofs.Running.{Standing, Does, onto, from_place}
 use Rattle.codegen.proofs.Calling.{does_library, does_mpi}
 use Rattle.codegen.proofs.Spanning.{Spans, Lies, spans_none, spans_one, spans_then, spans_first}
 use Rattle.codegen.proofs.Stepping.{Values, Steps, values_number, values_local, values_object, steps_load, steps_convert, steps_unary, steps_not, steps_member, steps_binary, steps_greater, steps_at_least, steps_offset, steps_difference, steps_and, steps_or, steps_conditional, steps_comma, steps_assign, steps_copy, steps_update, steps_advance, steps_count}
 
--- what operands and steps do, and their code
+-- what operands and steps do
 pub operand_of : Operand → Value
 operand_of = fold-Operand Value (ℕ → Value) Value operand_value step_value value_step
 
 pub step_of : Step → ℕ → Value
 step_of = fold-Step Value (ℕ → Value) Value operand_value step_value value_step
-
-pub operand_code : (ℕ → ℕ) → Operand → Part
-operand_code object = fold-Operand Part Part Part (operand_part object) step_part expr_step
-
-pub step_code : (ℕ → ℕ) → Step → Part
-step_code object = fold-Step Part Part Part (operand_part object) step_part expr_step
 
 -- the equations at one layer
 operand_roll : (x : Operand-F Operand Step Expr)

@@ -5,6 +5,8 @@ use Rattle.rank_range.specs.declared.kinds.Kind.TheVariants as kind
 use Rattle.rank_range.specs.declared.operators.Binary.{Binary as Operator}
 use Rattle.rank_range.specs.declared.operators.Binary.TheVariants as op
 use Rattle.c_types.specs.declared.expression.Operand.TheOpen.{Operand-F, Step-F, Expr-F}
+use Rattle.c_types.specs.declared.expression.Operand.{Operand, fold-Operand}
+use Rattle.c_types.specs.declared.expression.Step.{Step, fold-Step}
 use Rattle.c_types.specs.declared.expression.Expr.{Expr, fold-Expr}
 use Rattle.c_types.specs.declared.expression.OffsetBy.{OffsetBy}
 use Rattle.c_types.specs.declared.expression.OffsetBy.TheVariants.{PointerPlusNumber, NumberPlusPointer, PointerMinusNumber}
@@ -83,6 +85,17 @@ on_words op = one (Binary op kind.UnsignedLong)
 abbrev pub scaled : ℕ → Part
 scaled scale = one (Push scale) then on_words op.Multiply
 
+-- the parts before and behind the operand on the right
+abbrev pub offset_front : OffsetBy → ℕ → Part
+offset_front PointerPlusNumber scale = nothing
+offset_front NumberPlusPointer scale = scaled scale
+offset_front PointerMinusNumber scale = nothing
+
+abbrev pub offset_back : OffsetBy → ℕ → Part
+offset_back PointerPlusNumber scale = scaled scale then on_words op.Add
+offset_back NumberPlusPointer scale = on_words op.Add
+offset_back PointerMinusNumber scale = scaled scale then on_words op.Subtract
+
 abbrev pub offset_part : OffsetBy → ℕ → Part → Part
 offset_part PointerPlusNumber scale b = b then scaled scale then on_words op.Add
 offset_part NumberPlusPointer scale b = scaled scale then b then on_words op.Add
@@ -132,6 +145,13 @@ step_part (Step-F.Count c direction given) =
 
 abbrev pub expr_step : Expr-F Part Part Part → Part
 expr_step e = e.first then in_order e.steps
+
+-- operands and steps
+unfoldable pub operand_code : (ℕ → ℕ) → Operand → Part
+operand_code object = fold-Operand Part Part Part (operand_part object) step_part expr_step
+
+unfoldable pub step_code : (ℕ → ℕ) → Step → Part
+step_code object = fold-Step Part Part Part (operand_part object) step_part expr_step
 
 -- an expression, where static objects stand at these offsets of the globals
 unfoldable pub expr_part : (ℕ → ℕ) → Expr → Part

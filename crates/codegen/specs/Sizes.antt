@@ -1,6 +1,8 @@
 -- How many instructions the code of each construct has.
 use Rattle.std.specs.Prelude.{ℕ, ◌+◌, List, [], ◌∷◌, Option, None, Some}
 use Rattle.c_types.specs.declared.expression.Operand.TheOpen.{Operand-F, Step-F, Expr-F}
+use Rattle.c_types.specs.declared.expression.Operand.{Operand, fold-Operand}
+use Rattle.c_types.specs.declared.expression.Step.{Step, fold-Step}
 use Rattle.c_types.specs.declared.expression.Expr.{Expr, fold-Expr}
 use Rattle.c_types.specs.declared.expression.Given.{Given}
 use Rattle.c_types.specs.declared.expression.Given.TheVariants.{New, Old}
@@ -52,6 +54,12 @@ step_size (Step-F.Count counted direction given) = count_size given
 
 abbrev pub expr_size_step : Expr-F ℕ ℕ ℕ → ℕ
 expr_size_step e = e.first + total e.steps
+
+unfoldable pub operand_sized : Operand → ℕ
+operand_sized = fold-Operand ℕ ℕ ℕ operand_size step_size expr_size_step
+
+unfoldable pub step_sized : Step → ℕ
+step_sized = fold-Step ℕ ℕ ℕ operand_size step_size expr_size_step
 
 unfoldable pub expr_size : Expr → ℕ
 expr_size = fold-Expr ℕ ℕ ℕ operand_size step_size expr_size_step

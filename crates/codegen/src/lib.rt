@@ -3,4 +3,4 @@
 
 mod laws;
 
-pub use laws::laid_out_code_means_its_program;
+pub use laws::{laid_out_code_is_bounded, laid_out_code_means_its_program};
