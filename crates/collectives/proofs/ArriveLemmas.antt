@@ -1,8 +1,8 @@
 -- A message that arrives keeps all collectives under way.
 use Rattle.std.proofs.Common.{ℕ, ◌≡◌, ◌≢◌, ◌⊎◌, inl, inr, List, [], ◌++◌, true, false, ◌&&◌, Option, Some, None, length, refl, sym, subst, ap, ◌∙◌}
-use Rattle.std.specs.Prelude.{nat_eq, not, filter}
+use Rattle.std.specs.Prelude.{nat_eq, not, All, filter}
 use Rattle.std.proofs.lemmas.Bool.{cases_Bool, cases_eq, and_parts, and_from, and_left, eqb-true, eq-eqb, false≢true, cond-true, cond-false}
-use Rattle.std.proofs.lemmas.List.Elements.{All-nil}
+use Rattle.std.proofs.lemmas.List.Elements.{All-nil, All-append}
 use Rattle.mpi_types.specs.declared.argument.Arg.{Arg}
 use Rattle.mpi_types.specs.declared.argument.Joined.{Joined}
 use Rattle.mpi_types.specs.declared.argument.Sweep.{Sweep}
@@ -17,11 +17,12 @@ use Rattle.collectives.specs.Held.{is_up, is_up_of}
 use Rattle.collectives.specs.Sweeps.{Went}
 use Rattle.collectives.specs.Stages.{Stage}
 use Rattle.collectives.specs.System.{Parcel, is_down_of, goes_up_from, goes_down_to}
-use Rattle.collectives.specs.Underway.{Groups, rank_in, AreGroups, Gives, System, is_collective, with_sweep, Collective, IsCall, UnderwayAt, Underway}
+use Rattle.collectives.specs.Underway.{Groups, rank_in, AreGroups, Gives, System, is_collective, with_sweep, Collective, IsCall, UnderwayAt, Underway, GoesUp, IsKnown}
 use Rattle.std.specs.Prelude.{is_none}
 use Rattle.collectives.specs.Sweeps.{awaits, kept, arrived, arrived_at, goes_on}
 use Rattle.collectives.specs.Underway.{MayArrive, went_at_arrival, parcels_by, after_arrival}
 use Rattle.collectives.proofs.BagLemmas.{taken_other}
+use Rattle.collectives.proofs.KeyLemmas.{all_taken, sent_known}
 use Rattle.collectives.proofs.SystemLemmas.{LeavesOthers, not_of_other, with_sweep-same, with_sweep-other}
 use Rattle.collectives.proofs.JoinLemmas.{with_stages, same_collective, which_collective, other_collective}
 
@@ -133,6 +134,17 @@ from_outcome groups gives s stages before p after g are u may o =
               let Q : ℕ → Type 0 = λ x. IsTreeOrdered (with_sweep r w.sweep s.sweeps x).tree in
               subst Q (sym e) (subst O (sym (with_sweep-same r w.sweep s.sweeps)) (o.leaves.ordered (u.ordered r)))
         ];
+        only_up = λ q. elim (cases_eq q r) [
+          | inr other ↦ let O : Sweep → Type 0 = λ x. All GoesUp x.tree in subst O (sym (with_sweep-other r w.sweep s.sweeps q other)) (u.only_up q)
+          | inl e ↦
+              let O : Sweep → Type 0 = λ x. All GoesUp x.tree in
+              let Q : ℕ → Type 0 = λ x. All GoesUp (with_sweep r w.sweep s.sweeps x).tree in
+              subst Q (sym e) (subst O (sym (with_sweep-same r w.sweep s.sweeps)) (o.leaves.only_up (u.only_up r)))
+        ];
+        known =
+            let B : List Parcel → Type 0 = λ x. All (IsKnown groups) x in
+            let taken = all_taken (IsKnown groups) before p after (subst B may.there u.known) in
+            All-append (IsKnown groups) (before ++ after) (parcels_by g w.out.sends) taken.1 (sent_known groups t.ctx t.position g w.out.sends taken.0 o.leaves.sent);
       };
     }
   where
@@ -145,4 +157,4 @@ from_outcome groups gives s stages before p after g are u may o =
     by_group None h position stage w c l apart up down keeps =
         let quiet_w : Went = record { sweep = w.sweep; out = record { sends = []; gathered = false } } in
         other_collective gives s h position stage p.message.ctx p.message.position p.to quiet_w (rank_in h) s.who (before ++ after) c
-        (record { kept = l.kept; sent = All-nil (λ (x : TreeSend). (x.message.ctx ≡ p.message.ctx) × (x.message.position ≡ p.message.position)); ordered = l.ordered }) apart refl up down keeps
+        (record { kept = l.kept; sent = All-nil (λ (x : TreeSend). (x.message.ctx ≡ p.message.ctx) × (x.message.position ≡ p.message.position)); ordered = l.ordered; only_up = l.only_up }) apart refl up down keeps

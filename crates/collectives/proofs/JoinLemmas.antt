@@ -1,7 +1,8 @@
 -- A rank that joins a collective keeps all of them under way.
 use Rattle.std.proofs.Common.{ℕ, ◌≡◌, ◌≢◌, ◌<◌, ◌⊎◌, inl, inr, List, ◌++◌, cond, Bool, true, false, Option, Some, None, length, refl, sym, subst, ap, ◌∙◌}
-use Rattle.std.specs.Prelude.{nat_eq, is_some, filter}
+use Rattle.std.specs.Prelude.{nat_eq, is_some, All, filter}
 use Rattle.std.proofs.lemmas.Bool.{cases_Bool, cases_eq, and_parts, and_from, eqb-true, eq-eqb, ne_eqb, true≢false, cond-true, cond-false}
+use Rattle.std.proofs.lemmas.List.Elements.{All-append}
 use Rattle.mpi_types.specs.declared.argument.Arg.{Arg}
 use Rattle.mpi_types.specs.declared.argument.Joined.{Joined}
 use Rattle.mpi_types.specs.declared.argument.Sweep.{Sweep}
@@ -16,8 +17,9 @@ use Rattle.collectives.specs.Sweeps.{Went, looked, with_list, joins}
 use Rattle.collectives.specs.Slices.{all_of}
 use Rattle.collectives.specs.Stages.{Stage, is_apart, is_done}
 use Rattle.collectives.specs.System.{Parcel, StagesFit, Waits, goes_up_from, goes_down_to}
-use Rattle.collectives.specs.Underway.{Groups, rank_in, AreGroups, Gives, AllGive, System, is_collective, with_joined, with_sweep, MayJoin, after_joining, Collective, IsCall, UnderwayAt, Underway}
+use Rattle.collectives.specs.Underway.{Groups, rank_in, AreGroups, Gives, AllGive, System, is_collective, with_joined, with_sweep, MayJoin, after_joining, Collective, IsCall, UnderwayAt, Underway, GoesUp, IsKnown, parcels_by}
 use Rattle.collectives.proofs.BagLemmas.{filter_all_less}
+use Rattle.collectives.proofs.KeyLemmas.{sent_known}
 use Rattle.collectives.proofs.LookLemmas.{Looks, Looked, look, with_tree, with_tree-same, with_tree-other, parcels}
 use Rattle.collectives.proofs.SystemLemmas.{LeavesOthers, looked_leaves, sent_up_none, sent_down_none, same_messages, trees_kept, with_sweep-same, with_sweep-other}
 
@@ -274,6 +276,14 @@ joining_keeps groups gives s g position a are all under may =
               let Q : ℕ → Type 0 = λ x. IsTreeOrdered (with_sweep r w.sweep s.sweeps x).tree in
               subst Q (sym e) (subst O (sym (with_sweep-same r w.sweep s.sweeps)) (leaves.ordered (u.ordered r)))
         ];
+        only_up = λ q. elim (cases_eq q r) [
+          | inr other ↦ let O : Sweep → Type 0 = λ x. All GoesUp x.tree in subst O (sym (with_sweep-other r w.sweep s.sweeps q other)) (u.only_up q)
+          | inl e ↦
+              let O : Sweep → Type 0 = λ x. All GoesUp x.tree in
+              let Q : ℕ → Type 0 = λ x. All GoesUp (with_sweep r w.sweep s.sweeps x).tree in
+              subst Q (sym e) (subst O (sym (with_sweep-same r w.sweep s.sweeps)) (leaves.only_up (u.only_up r)))
+        ];
+        known = All-append (IsKnown groups) s.bag (parcels_by (Some g) w.out.sends) u.known (sent_known groups g.ctx position (Some g) w.out.sends (ap is_some may.known) leaves.sent);
       };
     }
   where

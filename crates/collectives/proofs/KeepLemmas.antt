@@ -30,10 +30,11 @@ use Rattle.collectives.proofs.FallLemmas.{FallsTo, falls_to, falls, all_whole}
 use Rattle.collectives.proofs.SystemLemmas.{LeavesOthers, looked_leaves, closed_leaves}
 use Rattle.collectives.proofs.JoinLemmas.{with_stages, this_collective, call_at, own_call}
 use Rattle.collectives.proofs.ArriveLemmas.{IsKept, arrived_cases, awaited_is, none_is, awaits_call, Outcome, from_outcome}
-use Rattle.collectives.proofs.OutcomeLemmas.{option_cases, kept_leaves, unknown_outcome, kept_outcome}
+use Rattle.collectives.proofs.OutcomeLemmas.{option_cases, kept_leaves, kept_outcome}
 use Rattle.collectives.specs.Stages.{may_be_below, Fit}
 use Rattle.collectives.specs.Stages.Stage.{Apart, Rising, Held, Passed, Falling, Done}
-use Rattle.collectives.specs.Underway.{GathersAll}
+use Rattle.collectives.specs.Underway.{GathersAll, IsKnown}
+use Rattle.collectives.proofs.KeyLemmas.{all_taken, not_held_at, the_group}
 use Rattle.collectives.proofs.StageLemmas.{not_apart_below}
 
 awaited_outcome : (groups : Groups) (gives : Gives) (s : System) (stages : List Level → ℕ → ℕ → Stage) (before : List Parcel) (p : Parcel) (after : List Parcel) (w : Went) (h : Group) (j : Joined) (base : ℕ → Stage) (trees : ℕ → List TreeMsg)
@@ -137,7 +138,7 @@ up_outcome groups gives s stages before p after w h j are all u known not_held j
     let W : Went → Type 0 = λ x. Looked h.ctx position n (rank_in h) (gives h.ctx position) (s.who h.ctx position) base trees (before ++ after) j x in
     let l : W w = subst W (ap (looked n j) tree_is ∙ sym w_is) (look h.ctx position n (rank_in h) (gives h.ctx position) (s.who h.ctx position) base trees (before ++ after) j looks) in
     let after_put = looked_leaves n j (put_message t (s.sweeps r).tree) in
-    let first = kept_leaves (s.sweeps r).joined (s.sweeps r).tree t not_held in
+    let first = kept_leaves (s.sweeps r).joined (s.sweeps r).tree t (ap (λ x. x.message.direction) cu.is) not_held in
     let V : Went → Type 0 = λ x. LeavesOthers t.ctx position (s.sweeps r).tree x in
     let X : List Level → Type 0 = λ x. All (λ (y : TreeSend). (y.message.ctx ≡ x) × (y.message.position ≡ j.position)) (looked n j (put_message t (s.sweeps r).tree)).out.sends in
     let Y : ℕ → Type 0 = λ x. All (λ (y : TreeSend). (y.message.ctx ≡ t.ctx) × (y.message.position ≡ x)) (looked n j (put_message t (s.sweeps r).tree)).out.sends in
@@ -145,6 +146,7 @@ up_outcome groups gives s stages before p after w h j are all u known not_held j
       kept = λ c x apart. after_put.kept c x (ap (λ y. is_collective y j.position c x) parts.0 ∙ (ap (λ y. is_collective t.ctx y c x) e_position ∙ apart)) ∙ first.kept c x apart;
       sent = subst Y e_position (subst X parts.0 after_put.sent);
       ordered = λ o. after_put.ordered (first.ordered o);
+      only_up = λ o. after_put.only_up (first.only_up o);
     }) in
     awaited_outcome groups gives s stages before p after w h j base trees are u known joined e_ctx e_position e_none at.0 gave at.1 has cu.same_done
     (λ k inside other. with_tree-other q put (λ i. (s.sweeps (rank_in h i)).tree) k (λ e. other (e ∙ sym m_is))) l leaves
@@ -193,6 +195,7 @@ down_outcome groups gives s stages before p after w h j i are all u known joined
       kept = λ cc' x apart. refl;
       sent = subst Y e_position (subst X parts.0 after_close.sent);
       ordered = λ o. o;
+      only_up = λ o. o;
     }) in
     awaited_outcome groups gives s stages before p after w h j (stages h.ctx position) trees are u known joined e_ctx e_position e_none at.0 gave at.1 has (λ k. refl) (λ k inside other. refl) l leaves
 
@@ -203,10 +206,6 @@ is_it_up Down e = absurd (false≢true e)
 is_it_down : (d : Direction) → is_up d ≡ false → d ≡ Down
 is_it_down Down e = refl
 is_it_down Up e = absurd (true≢false e)
-
-the_group : (o : Option Group) → is_some o ≡ true → (x : Group) × (o ≡ Some x)
-the_group None e = absurd (false≢true e)
-the_group (Some x) e = (x, refl)
 
 -- the list is always awaited
 down_awaited : (groups : Groups) (gives : Gives) (s : System) (stages : List Level → ℕ → ℕ → Stage) (before : List Parcel) (p : Parcel) (after : List Parcel) (g : Option Group) (w : Went) (h : Group) (i : ℕ)
@@ -232,11 +231,11 @@ arrival_outcome groups gives s stages before p after g are all u may =
     let position : ℕ = t.position in
     let w : Went = went_at_arrival s p g in
     let cases = arrived_cases g (s.sweeps p.to) t in
+    let not_held : IsNotHeld t (s.sweeps p.to).tree = not_held_at groups gives s stages before p after are u may.there in
     elim (option_cases (groups t.ctx)) [
-      | inl none ↦ elim cases [
-        | inl k ↦ unknown_outcome groups gives s stages before p after g w u may none k.is
-        | inr a ↦ absurd (never a.group (sym none ∙ may.known a.group a.group_is))
-      ]
+      | inl none ↦
+          let B : List Parcel → Type 0 = λ x. All (IsKnown groups) x in
+          absurd (false≢true (sym (ap is_some none) ∙ (all_taken (IsKnown groups) before p after (subst B may.there u.known)).0))
       | inr found ↦
           let h : Group = found.0 in
           let known : groups t.ctx ≡ Some h = found.1 in
@@ -253,14 +252,14 @@ arrival_outcome groups gives s stages before p after g are all u may =
                 let cu = comes_up h.ctx position n (rank_in h) (gives h.ctx position) (s.who h.ctx position) (stages h.ctx position) (λ i. (s.sweeps (rank_in h i)).tree) before p after (are.room t.ctx h known) c.fits c.waits messages goes
                 (λ k inside. u.ordered (rank_in h k)) in
                 elim cases [
-                  | inl k ↦ kept_outcome groups gives s stages before p after g w h are all u may known k cu
+                  | inl k ↦ kept_outcome groups gives s stages before p after g w h are all u may known not_held k cu
                   | inr a ↦
                       let q : Some a.group ≡ Some h = sym (may.known a.group a.group_is) ∙ known in
                       let group_is : a.group ≡ h = cc in
                       let g_is : g ≡ Some h = a.group_is ∙ ap Some group_is in
                       let w_is : w ≡ looked n a.j (put_message t (s.sweeps p.to).tree) =
                       a.is ∙ (ap (λ d. goes_on d (length a.group.members) a.j (s.sweeps p.to).tree t) (is_it_up t.direction up) ∙ ap (λ x. looked (length x.members) a.j (put_message t (s.sweeps p.to).tree)) group_is) in
-                      subst P (sym g_is) (up_outcome groups gives s stages before p after w h a.j are all u known may.not_held a.joined_is a.awaited w_is cu)
+                      subst P (sym g_is) (up_outcome groups gives s stages before p after w h a.j are all u known not_held a.joined_is a.awaited w_is cu)
                 ]
             | inr down ↦
                 let goes : is_down_of h.ctx position t ≡ true = and_from (is_same_ctx t.ctx h.ctx && nat_eq t.position position) (not (is_up t.direction)) place (ap not down) in
@@ -277,15 +276,16 @@ arrival_outcome groups gives s stages before p after g are all u may =
                 ]
           ]
     ]
-  where
-    never : (h : Group) → None ≡ Some h → ⊥
-    never h e = cc
 
 -- all collectives go on under way when a message arrives
 pub arrival_keeps : (groups : Groups) (gives : Gives) (s : System) (before : List Parcel) (p : Parcel) (after : List Parcel) (g : Option Group) → AreGroups groups → AllGive groups gives → Underway groups gives s → MayArrive groups s before p after g
     → Underway groups gives (after_arrival s before p after g)
 arrival_keeps groups gives s before p after g are all under may =
     from_outcome groups gives s under.stages before p after g are under.at may (arrival_outcome groups gives s under.stages before p after g are all under.at may)
+
+pub arrival_not_held : (groups : Groups) (gives : Gives) (s : System) (before : List Parcel) (p : Parcel) (after : List Parcel) → AreGroups groups → Underway groups gives s → s.bag ≡ before ++ p ∷ after
+    → IsNotHeld p.message (s.sweeps p.to).tree
+arrival_not_held groups gives s before p after are under there = not_held_at groups gives s under.stages before p after are under.at there
 
 -- below what isn't done nothing is, where the top isn't
 top_apart : (p c : Stage) → may_be_below p c ≡ true → is_done p ≡ false → (is_falling p ≡ false) → (is_done c ≡ false) × (is_falling c ≡ false)

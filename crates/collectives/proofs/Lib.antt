@@ -11,6 +11,7 @@ pub mod LookLemmas
 pub mod ComeLemmas
 pub mod FallLemmas
 pub mod SystemLemmas
+pub mod KeyLemmas
 pub mod JoinLemmas
 pub mod ArriveLemmas
 pub mod OutcomeLemmas

@@ -211,7 +211,7 @@ before_or_same a b no_less = elim (cases_Bool (is_tree_before b a)) [
           member = eqb-true a.member b.member three.1;
         }
 
-all_put : (P : TreeMsg → Type 0) (t : TreeMsg) (tree : List TreeMsg) → P t → All P tree → All P (put_message t tree)
+pub all_put : (P : TreeMsg → Type 0) (t : TreeMsg) (tree : List TreeMsg) → P t → All P tree → All P (put_message t tree)
 all_put P t [] p h = All-cons P t [] p h
 all_put P t (m ∷ tree) p h = elim (cases_Bool (is_tree_before t m)) [
   | inl y ↦ rw y (All-cons P t (m ∷ tree) p h)

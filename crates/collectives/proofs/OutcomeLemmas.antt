@@ -14,14 +14,14 @@ use Rattle.collectives.specs.Held.{is_up, is_up_of, put_message}
 use Rattle.collectives.specs.Sweeps.{Went}
 use Rattle.collectives.specs.Stages.{Stage, is_apart, is_done}
 use Rattle.collectives.specs.System.{Parcel, goes_up_from, goes_down_to}
-use Rattle.collectives.specs.Underway.{Groups, rank_in, AreGroups, Gives, AllGive, System, is_collective, with_sweep, Collective, IsCall, UnderwayAt}
+use Rattle.collectives.specs.Underway.{Groups, rank_in, AreGroups, Gives, AllGive, System, is_collective, with_sweep, Collective, IsCall, UnderwayAt, GoesUp}
 use Rattle.collectives.proofs.TreeLemmas.{parent_less}
 use Rattle.collectives.proofs.LookLemmas.{is_it_apart, with_tree, with_tree-same, with_tree-other}
 use Rattle.collectives.specs.Stages.{came_up}
 use Rattle.collectives.specs.Sweeps.{kept, IsNotHeld}
 use Rattle.collectives.specs.Underway.{MayArrive, parcels_by}
 use Rattle.collectives.proofs.ChainLemmas.{has_some}
-use Rattle.collectives.proofs.OrderLemmas.{put_filter_other, put_ordered}
+use Rattle.collectives.proofs.OrderLemmas.{put_filter_other, put_ordered, all_put}
 use Rattle.collectives.proofs.ComeLemmas.{CameUp}
 use Rattle.collectives.proofs.SystemLemmas.{LeavesOthers, not_of_other, same_messages, with_sweep-same, with_sweep-other}
 use Rattle.collectives.proofs.JoinLemmas.{with_stages, same_collective, which_collective}
@@ -31,11 +31,12 @@ pub option_cases : (o : Option Group) → (o ≡ None) ⊎ ((h : Group) × (o �
 option_cases None = inl refl
 option_cases (Some h) = inr (h, refl)
 
-pub kept_leaves : (joined : Option Joined) (old : List TreeMsg) (t : TreeMsg) → IsNotHeld t old → LeavesOthers t.ctx t.position old (kept joined old t)
-kept_leaves joined old t none = record {
+pub kept_leaves : (joined : Option Joined) (old : List TreeMsg) (t : TreeMsg) → GoesUp t → IsNotHeld t old → LeavesOthers t.ctx t.position old (kept joined old t)
+kept_leaves joined old t up none = record {
   kept = λ c p apart. put_filter_other (is_up_of c p) t old (and_left (is_same_ctx t.ctx c && nat_eq t.position p) (is_up t.direction) (not_of_other t.ctx t.position c p t apart refl refl));
   sent = All-nil (λ (x : TreeSend). (x.message.ctx ≡ t.ctx) × (x.message.position ≡ t.position));
   ordered = λ h. put_ordered t old h none;
+  only_up = λ h. all_put GoesUp t old up h;
 }
 
 -- what was joined is as before, in stages that say the same of who has gathered
@@ -64,34 +65,13 @@ no_bag : (g : Option Group) → parcels_by g [] ≡ []
 no_bag None = refl
 no_bag (Some g) = refl
 
--- a message that is kept, of a collective that isn't known
-pub unknown_outcome : (groups : Groups) (gives : Gives) (s : System) (stages : List Level → ℕ → ℕ → Stage) (before : List Parcel) (p : Parcel) (after : List Parcel) (g : Option Group) (w : Went)
-    → UnderwayAt groups gives s stages → MayArrive groups s before p after g → groups p.message.ctx ≡ None → w ≡ kept (s.sweeps p.to).joined (s.sweeps p.to).tree p.message
-    → Outcome groups gives s (record { sweeps = with_sweep p.to w.sweep s.sweeps; bag = (before ++ after) ++ parcels_by g w.out.sends; who = s.who }) stages p.to p.message w
-unknown_outcome groups gives s stages before p after g w u may none is =
-    let t : TreeMsg = p.message in
-    let same : w.sweep.joined ≡ (s.sweeps p.to).joined = ap (λ x. x.sweep.joined) is in
-    let V : Went → Type 0 = λ x. LeavesOthers t.ctx t.position (s.sweeps p.to).tree x in
-    let s2 : System = record { sweeps = with_sweep p.to w.sweep s.sweeps; bag = (before ++ after) ++ parcels_by g w.out.sends; who = s.who } in
-    record {
-      stage' = stages t.ctx t.position;
-      this = λ h e. absurd (never h (sym none ∙ e));
-      leaves = subst V (sym is) (kept_leaves (s.sweeps p.to).joined (s.sweeps p.to).tree t may.not_held);
-      keeps = λ j apart e. same ∙ e;
-      own = λ j e. call_same groups gives s s2 stages t.ctx t.position (stages t.ctx t.position) p.to j (u.own p.to j (sym same ∙ e)) (λ c q k h. h) (λ k. refl);
-      others = λ q j other e. call_same groups gives s s2 stages t.ctx t.position (stages t.ctx t.position) q j (u.own q j e) (λ c x k h. h) (λ k. refl);
-    }
-  where
-    never : (h : Group) → None ≡ Some h → ⊥
-    never h e = cc
-
 -- what comes up is kept where the parent hasn't joined
 pub kept_outcome : (groups : Groups) (gives : Gives) (s : System) (stages : List Level → ℕ → ℕ → Stage) (before : List Parcel) (p : Parcel) (after : List Parcel) (g : Option Group) (w : Went) (h : Group)
-    → AreGroups groups → AllGive groups gives → UnderwayAt groups gives s stages → MayArrive groups s before p after g → groups p.message.ctx ≡ Some h
+    → AreGroups groups → AllGive groups gives → UnderwayAt groups gives s stages → MayArrive groups s before p after g → groups p.message.ctx ≡ Some h → IsNotHeld p.message (s.sweeps p.to).tree
     → IsKept g (s.sweeps p.to) p.message w
     → CameUp h.ctx p.message.position (length h.members) (rank_in h) (gives h.ctx p.message.position) (s.who h.ctx p.message.position) (stages h.ctx p.message.position) (λ i. (s.sweeps (rank_in h i)).tree) (before ++ after) p
     → Outcome groups gives s (record { sweeps = with_sweep p.to w.sweep s.sweeps; bag = (before ++ after) ++ parcels_by g w.out.sends; who = s.who }) stages p.to p.message w
-kept_outcome groups gives s stages before p after g w h are all u may known k cu =
+kept_outcome groups gives s stages before p after g w h are all u may known not_held k cu =
     let t : TreeMsg = p.message in
     let r : ℕ = p.to in
     let n : ℕ = length h.members in
@@ -149,7 +129,7 @@ kept_outcome groups gives s stages before p after g w h are all u may known k cu
     record {
       stage' = stage';
       this = λ x e. let q' : Some h ≡ Some x = sym known ∙ e in let h_is : h ≡ x = cc in subst C h_is this_h;
-      leaves = subst V (sym k.is) (kept_leaves (s.sweeps r).joined (s.sweeps r).tree t may.not_held);
+      leaves = subst V (sym k.is) (kept_leaves (s.sweeps r).joined (s.sweeps r).tree t (ap (λ x. x.message.direction) cu.is) not_held);
       keeps = λ j apart e. same ∙ e;
       own = λ j e. call_same groups gives s s2 stages t.ctx position stage' r j (u.own r j (sym same ∙ e)) (λ x y z b. b) done_same;
       others = λ x j other e. call_same groups gives s s2 stages t.ctx position stage' x j (u.own x j e) (λ x' y z b. b) done_same;

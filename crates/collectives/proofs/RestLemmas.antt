@@ -3,7 +3,7 @@ use Rattle.std.proofs.Common.{ℕ, zero, suc, ◌≡◌, ◌-◌, ◌<◌, ◌�
 use Rattle.std.specs.Prelude.{is_some, All, filter}
 use Rattle.std.specs.List.{list_all}
 use Rattle.std.proofs.lemmas.Bool.{cases_Bool, cases_lt, cases_eq, true≢false, false≢true, cond-true}
-use Rattle.std.proofs.lemmas.List.Elements.{All-head, All-tail}
+use Rattle.std.proofs.lemmas.List.Elements.{All-nil, All-head, All-tail}
 use Rattle.mpi_types.specs.declared.argument.Arg.{Arg}
 use Rattle.mpi_types.specs.declared.argument.Joined.{Joined}
 use Rattle.mpi_types.specs.declared.argument.Sweep.{Sweep}
@@ -15,7 +15,7 @@ use Rattle.collectives.specs.Held.{is_up_of}
 use Rattle.collectives.specs.Slices.{up_of}
 use Rattle.collectives.specs.Stages.{Stage, is_apart, is_rising, is_held, is_falling, is_done}
 use Rattle.collectives.specs.System.{Parcel, StagesFit, Waits, goes_up_from, goes_down_to}
-use Rattle.collectives.specs.Underway.{Groups, rank_in, AreGroups, Gives, System, with_sweep, Underway}
+use Rattle.collectives.specs.Underway.{Groups, rank_in, AreGroups, Gives, System, with_sweep, Underway, GoesUp, IsKnown}
 use Rattle.collectives.proofs.GoLemmas.{filter_none}
 use Rattle.collectives.proofs.TreeLemmas.{parent_less, IsChild, children_are, end_within}
 use Rattle.collectives.proofs.LookLemmas.{is_it_apart}
@@ -46,6 +46,8 @@ start_is groups gives s are is = record {
         };
     own = λ r j e. absurd (never j (sym (is.nothing_joined r) ∙ e));
     ordered = λ r. let O : List TreeMsg → Type 0 = λ x. IsTreeOrdered x in subst O (sym (is.nothing_held r)) (λ i j d less within. absurd (omega arith));
+    only_up = λ r. let O : List TreeMsg → Type 0 = λ x. All GoesUp x in subst O (sym (is.nothing_held r)) (All-nil GoesUp);
+    known = let B : List Parcel → Type 0 = λ x. All (IsKnown groups) x in subst B (sym is.nothing_sent) (All-nil (IsKnown groups));
   };
 }
   where
@@ -87,6 +89,8 @@ ending_keeps groups gives s r j are under joined gathered =
               record { group = call.group; known = call.known; member = call.member; rank = call.rank; gave = call.gave; has_joined = call.has_joined; done = call.done; list = call.list }
         ];
         ordered = λ q. let O : List TreeMsg → Type 0 = λ x. IsTreeOrdered x in subst O (sym (tree_same q)) (u.ordered q);
+        only_up = λ q. let O : List TreeMsg → Type 0 = λ x. All GoesUp x in subst O (sym (tree_same q)) (u.only_up q);
+        known = u.known;
       };
     }
   where

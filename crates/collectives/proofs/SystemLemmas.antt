@@ -2,7 +2,7 @@
 use Rattle.std.proofs.Common.{ℕ, ◌≡◌, ◌≢◌, ◌<◌, inl, inr, List, [], ◌∷◌, map, Bool, true, false, ◌&&◌, Some, length, refl, sym, subst, ap, ◌∙◌}
 use Rattle.std.specs.Prelude.{nat_eq, not, All, filter}
 use Rattle.std.proofs.lemmas.Bool.{cases_Bool, cases_eq, and_parts, and_from, and_left, eqb-true, eq-eqb, ne_eqb, true≢false, cond-true, cond-false}
-use Rattle.std.proofs.lemmas.List.Elements.{All-nil, All-cons, All-head, All-tail}
+use Rattle.std.proofs.lemmas.List.Elements.{All-nil, All-cons, All-head, All-tail, All-filter}
 use Rattle.std.proofs.lemmas.List.Kept.{AllPairs-filter}
 use Rattle.mpi_types.specs.declared.argument.Arg.{Arg}
 use Rattle.mpi_types.specs.declared.argument.Joined.{Joined}
@@ -21,7 +21,7 @@ use Rattle.collectives.specs.Sweeps.{Went, looked, completed, closed, handed_up,
 use Rattle.collectives.specs.Slices.{Given}
 use Rattle.collectives.specs.Stages.{Stage}
 use Rattle.collectives.specs.System.{Parcel, MessagesAre, is_down_of, goes_up_from, goes_down_to}
-use Rattle.collectives.specs.Underway.{rank_in, System, is_collective, with_sweep}
+use Rattle.collectives.specs.Underway.{rank_in, System, is_collective, with_sweep, GoesUp}
 use Rattle.collectives.proofs.LookLemmas.{with_tree, with_tree-same, with_tree-other, parcels}
 
 -- two collectives that differ have no message in common
@@ -70,11 +70,13 @@ downs_of_place : (j : Joined) (list : List Arg) (cs : List ℕ) → All (λ x. O
 downs_of_place j list [] = All-nil (λ x. OfPlace j.ctx j.position x.message)
 downs_of_place j list (c ∷ cs) = All-cons (λ x. OfPlace j.ctx j.position x.message) (down_send j list c) (map (down_send j list) cs) (refl, refl) (downs_of_place j list cs)
 
--- what a call leaves: of other collectives all stays, the order stays, and what is sent is of this collective
+-- what a call leaves: of other collectives all stays, the order stays, what is sent is of this collective, and what is held
+-- only goes up
 pub record LeavesOthers (ctx : List Level) (position : ℕ) (old : List TreeMsg) (w : Went) : Type 0 where
   pub kept : (c : List Level) (p : ℕ) → is_collective ctx position c p ≡ false → filter (is_up_of c p) w.sweep.tree ≡ filter (is_up_of c p) old
   pub sent : All (λ x. OfPlace ctx position x.message) w.out.sends
   pub ordered : IsTreeOrdered old → IsTreeOrdered w.sweep.tree
+  pub only_up : All GoesUp old → All GoesUp w.sweep.tree
 
 others_leave : (j : Joined) (old : List TreeMsg) (c : List Level) (p : ℕ) → is_collective j.ctx j.position c p ≡ false → filter (is_up_of c p) (others_of j.ctx j.position old) ≡ filter (is_up_of c p) old
 others_leave j old c p apart = filter_twice (is_up_of c p) (is_up_of j.ctx j.position) old (λ m up. other_up j.ctx j.position c p m apart up)
@@ -82,8 +84,11 @@ others_leave j old c p apart = filter_twice (is_up_of c p) (is_up_of j.ctx j.pos
 order_leave : (j : Joined) (old : List TreeMsg) → IsTreeOrdered old → IsTreeOrdered (others_of j.ctx j.position old)
 order_leave j old h = AllPairs-filter (λ a b. is_tree_before a b ≡ true) (λ m. not (is_up_of j.ctx j.position m)) old h
 
+up_leave : (j : Joined) (old : List TreeMsg) → All GoesUp old → All GoesUp (others_of j.ctx j.position old)
+up_leave j old h = All-filter (λ m. not (is_up_of j.ctx j.position m)) GoesUp old h
+
 pub closed_leaves : (n : ℕ) (j : Joined) (list : List Arg) (old : List TreeMsg) → LeavesOthers j.ctx j.position old (closed n j list old)
-closed_leaves n j list old = record { kept = λ c p apart. refl; sent = downs_of_place j list (children n j.arg.member); ordered = λ h. h }
+closed_leaves n j list old = record { kept = λ c p apart. refl; sent = downs_of_place j list (children n j.arg.member); ordered = λ h. h; only_up = λ h. h }
 
 pub looked_leaves : (n : ℕ) (j : Joined) (old : List TreeMsg) → LeavesOthers j.ctx j.position old (looked n j old)
 looked_leaves n j old =
@@ -93,15 +98,16 @@ looked_leaves n j old =
     let G : Went → Type 0 = LeavesOthers j.ctx j.position old in
     elim (cases_Bool (are_from m (end_of n m) here)) [
       | inr f ↦ subst G (sym (cond-false (are_from m (end_of n m) here) (completed n j old) (quiet (Some j) old) f))
-          (record { kept = λ c p apart. refl; sent = All-nil (λ (x : TreeSend). OfPlace j.ctx j.position x.message); ordered = λ h. h })
+          (record { kept = λ c p apart. refl; sent = All-nil (λ (x : TreeSend). OfPlace j.ctx j.position x.message); ordered = λ h. h; only_up = λ h. h })
       | inl t ↦ subst G (sym (cond-true (are_from m (end_of n m) here) (completed n j old) (quiet (Some j) old) t)) (elim (cases_Bool (nat_eq m 0)) [
         | inl e ↦ subst G (sym (cond-true (nat_eq m 0) (closed n j here rest) (handed_up j here rest) e))
-            (record { kept = λ c p apart. others_leave j old c p apart; sent = downs_of_place j here (children n m); ordered = λ h. order_leave j old h })
+            (record { kept = λ c p apart. others_leave j old c p apart; sent = downs_of_place j here (children n m); ordered = λ h. order_leave j old h; only_up = λ h. up_leave j old h })
         | inr f ↦ subst G (sym (cond-false (nat_eq m 0) (closed n j here rest) (handed_up j here rest) f))
             (record {
               kept = λ c p apart. others_leave j old c p apart;
               sent = All-cons (λ (x : TreeSend). OfPlace j.ctx j.position x.message) (up_send j here) [] (refl, refl) (All-nil (λ (x : TreeSend). OfPlace j.ctx j.position x.message));
               ordered = λ h. order_leave j old h;
+              only_up = λ h. up_leave j old h;
             })
       ])
     ]

@@ -1,9 +1,11 @@
 -- The ranks of a run, each with what it keeps of collectives, and the messages of trees under way, of which any may arrive
 -- next: for all contexts and positions at once.
-use Rattle.std.specs.Prelude.{ℕ, ◌≡◌, ◌<◌, ◌≤◌, ◌==◌, ◌&&◌, if◌then◌else◌, Bool, true, false, Option, Some, None, is_some, List, [], ◌∷◌, ◌++◌, map, length, get_or}
+use Rattle.std.specs.Prelude.{ℕ, ◌≡◌, ◌<◌, ◌≤◌, ◌==◌, ◌&&◌, if◌then◌else◌, Bool, true, false, Option, Some, None, is_some, List, [], ◌∷◌, ◌++◌, map, length, get_or, All}
 use Rattle.mpi_types.specs.declared.argument.Arg.{Arg}
+use Rattle.mpi_types.specs.declared.argument.Direction.TheVariants.{Up}
 use Rattle.mpi_types.specs.declared.argument.Joined.{Joined}
 use Rattle.mpi_types.specs.declared.argument.Sweep.{Sweep}
+use Rattle.mpi_types.specs.declared.argument.TreeMsg.{TreeMsg}
 use Rattle.mpi_types.specs.declared.context.Level.{Level}
 use Rattle.mpi_types.specs.declared.group.Group.{Group}
 use Rattle.mpi_types.specs.Accepts.{is_same_ctx}
@@ -91,10 +93,19 @@ pub record IsCall (groups : Groups) (gives : Gives) (s : System) (stages : List 
   pub done : is_done (stages j.ctx j.position j.arg.member) ≡ is_some j.gathered
   pub list : (xs : List Arg) → j.gathered ≡ Some xs → xs ≡ all_of (length group.members) (gives j.ctx j.position)
 
+-- the message goes up; the parcel's context is that of a group
+abbrev pub GoesUp : TreeMsg → Type 0
+GoesUp m = m.direction ≡ Up
+
+abbrev pub IsKnown : Groups → Parcel → Type 0
+IsKnown groups p = is_some (groups p.message.ctx) ≡ true
+
 pub record UnderwayAt (groups : Groups) (gives : Gives) (s : System) (stages : List Level → ℕ → ℕ → Stage) : Type 0 where
   pub each : (ctx : List Level) (g : Group) (position : ℕ) → groups ctx ≡ Some g → Collective gives s g position (stages g.ctx position)
   pub own : (r : ℕ) (j : Joined) → (s.sweeps r).joined ≡ Some j → IsCall groups gives s stages r j
   pub ordered : (r : ℕ) → IsTreeOrdered (s.sweeps r).tree
+  pub only_up : (r : ℕ) → All GoesUp (s.sweeps r).tree
+  pub known : All (IsKnown groups) s.bag
 
 -- All collectives are under way: there are stages that say what is so.
 pub record Underway (groups : Groups) (gives : Gives) (s : System) : Type 0 where
@@ -107,7 +118,6 @@ pub record MayArrive (groups : Groups) (s : System) (before : List Parcel) (p : 
   pub there : s.bag ≡ before ++ p ∷ after
   pub known : (h : Group) → g ≡ Some h → groups p.message.ctx ≡ Some h
   pub has : (j : Joined) → (s.sweeps p.to).joined ≡ Some j → j.ctx ≡ p.message.ctx → is_some g ≡ true
-  pub not_held : IsNotHeld p.message (s.sweeps p.to).tree
 
 abbrev pub went_at_arrival : System → Parcel → Option Group → Went
 went_at_arrival s p g = arrived g (s.sweeps p.to) p.message
@@ -134,13 +144,16 @@ pub record IsStart (s : System) : Type 0 where
 abbrev pub after_ending : System → ℕ → System
 after_ending s r = record { sweeps = with_sweep r (record { joined = None; tree = (s.sweeps r).tree }) s.sweeps; bag = s.bag; who = s.who }
 
--- All are under way at the start, and go on so when a member joins, when any message arrives, and when a call ends.
+-- All are under way at the start, and go on so when a member joins, when any message arrives, and when a call ends. Where a
+-- message arrives, none of the same context, position, direction and member is held.
 pub record CollectivesGoOn : Type 0 where
   pub start : (groups : Groups) (gives : Gives) (s : System) → AreGroups groups → IsStart s → Underway groups gives s
   pub joining : (groups : Groups) (gives : Gives) (s : System) (g : Group) (position : ℕ) (a : Arg) → AreGroups groups → AllGive groups gives → Underway groups gives s
       → MayJoin groups gives s g position a → Underway groups gives (after_joining s g position a)
   pub arrival : (groups : Groups) (gives : Gives) (s : System) (before : List Parcel) (p : Parcel) (after : List Parcel) (g : Option Group) → AreGroups groups → AllGive groups gives → Underway groups gives s
       → MayArrive groups s before p after g → Underway groups gives (after_arrival s before p after g)
+  pub not_held : (groups : Groups) (gives : Gives) (s : System) (before : List Parcel) (p : Parcel) (after : List Parcel) → AreGroups groups → Underway groups gives s → s.bag ≡ before ++ p ∷ after
+      → IsNotHeld p.message (s.sweeps p.to).tree
   pub ending : (groups : Groups) (gives : Gives) (s : System) (r : ℕ) (j : Joined) → AreGroups groups → Underway groups gives s → (s.sweeps r).joined ≡ Some j → is_some j.gathered ≡ true
       → Underway groups gives (after_ending s r)
 

@@ -10,7 +10,7 @@ pub fn arrivals_get_lighter()
 {}
 
 /// A law: all collectives of all communicators are under way at the start, and stay so when a member joins one, when any
-/// message arrives, and when a call ends.
+/// message arrives, and when a call ends. Where a message arrives, none of the same key is held.
 pub fn collectives_go_on()
     ensures { CollectivesGoOn }
 {}
