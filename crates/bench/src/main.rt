@@ -10,6 +10,7 @@ mod memories;
 mod parsing;
 mod plans;
 mod schedules;
+mod sweeps;
 mod work;
 
 use failed::Failed;
@@ -62,8 +63,12 @@ fn told_of(alloc: Global, words: &Vec<String>) -> Result<String, Failed> {
 
 /// Does the work, and appends its line.
 fn tell(text: &mut String, alloc: Global, work: Work) -> Result<(), Failed> {
-    let count = work.done(alloc)?;
+    let (count, gathered) = work.done(alloc)?;
     let (name, unit) = work.names();
-    write!(text, "{name}: {count} {unit}\n")?;
+    write!(text, "{name}: {count} {unit}")?;
+    if let Some(members) = gathered {
+        write!(text, ", {members} members gathered")?;
+    }
+    text.push_str("\n")?;
     Ok(())
 }

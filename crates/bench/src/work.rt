@@ -5,6 +5,7 @@ use crate::libraries::{self, Function};
 use crate::memories::{self, Bulk};
 use crate::parsing::{self, Shape};
 use crate::plans::{self, Rule};
+use crate::sweeps::{self, Call};
 use crate::{lexing, matches, schedules};
 use std::alloc::Global;
 
@@ -18,6 +19,7 @@ pub enum Figure {
     Schedule,
     Memory(Bulk),
     Library(Function),
+    Sweep(Call),
 }
 
 #[derive(Clone, Copy)]
@@ -28,7 +30,7 @@ pub struct Work {
 }
 
 /// Each figure once, small: its size, and its turns.
-pub const SMALL: [(Figure, u32, u32); 18] = [
+pub const SMALL: [(Figure, u32, u32); 20] = [
     (Figure::Lex, 4, 3),
     (Figure::Parse(Shape::Flat), 2, 3),
     (Figure::Parse(Shape::Deep), 2, 3),
@@ -47,6 +49,8 @@ pub const SMALL: [(Figure, u32, u32); 18] = [
     (Figure::Memory(Bulk::View), 1000, 3),
     (Figure::Library(Function::Printf), 10, 3),
     (Figure::Library(Function::Memcpy), 1000, 3),
+    (Figure::Sweep(Call::Barrier), 8, 3),
+    (Figure::Sweep(Call::Alltoall), 8, 3),
 ];
 
 impl Work {
@@ -64,8 +68,17 @@ impl Work {
         })
     }
 
-    /// How much was counted while the work was done.
-    pub(crate) fn done(self, alloc: Global) -> Result<u64, Failed> {
+    /// How much was counted while the work was done, and how many members gathered where it is a collective.
+    pub(crate) fn done(self, alloc: Global) -> Result<(u64, Option<u64>), Failed> {
+        if let Figure::Sweep(call) = self.figure {
+            let (sent, gathered) = sweeps::swept(alloc, call, self.size, self.turns)?;
+            return Ok((sent, Some(gathered)));
+        }
+        Ok((self.count(alloc)?, None))
+    }
+
+    /// The one count of the work, of a collective that of the messages.
+    fn count(self, alloc: Global) -> Result<u64, Failed> {
         match self.figure {
             Figure::Lex => lexing::tokens_in(alloc, self.size, self.turns),
             Figure::Parse(shape) => parsing::externals_in(alloc, shape, self.size, self.turns),
@@ -77,6 +90,7 @@ impl Work {
             Figure::Library(function) => {
                 libraries::bytes_given(alloc, function, self.size, self.turns)
             }
+            Figure::Sweep(call) => Ok(sweeps::swept(alloc, call, self.size, self.turns)?.0),
         }
     }
 
@@ -101,6 +115,8 @@ impl Work {
             Figure::Memory(Bulk::View) => ("memory view", "bytes"),
             Figure::Library(Function::Printf) => ("library printf", "bytes"),
             Figure::Library(Function::Memcpy) => ("library memcpy", "bytes"),
+            Figure::Sweep(Call::Barrier) => ("sweep barrier", "messages"),
+            Figure::Sweep(Call::Alltoall) => ("sweep alltoall", "messages"),
         }
     }
 }
@@ -116,6 +132,7 @@ impl Figure {
             ("balance", _) => Rule::of(kind).map(Figure::Balance),
             ("memory", _) => Bulk::of(kind).map(Figure::Memory),
             ("library", _) => Function::of(kind).map(Figure::Library),
+            ("sweep", _) => Call::of(kind).map(Figure::Sweep),
             _ => None,
         }
     }
