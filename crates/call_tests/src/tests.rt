@@ -2,6 +2,7 @@
 
 mod communicators;
 mod constants;
+mod fields;
 mod outputs;
 mod places;
 mod sweeps;
