@@ -1,0 +1,20 @@
+//! The types of C's expressions (C11, 6.2.5 to 6.3.2 and 6.5): what each operator gives on what its operands are, or the first of
+//! the rules that it breaks.
+#![tactic(auto)]
+
+mod classes;
+mod judged;
+mod operators;
+mod pairs;
+mod rules;
+mod trees;
+mod types;
+mod unary;
+mod values;
+
+pub use classes::{Class, Target, class_of, class_of_type};
+pub use judged::{Callee, Judged, Sort, Value};
+pub use operators::binary;
+pub use rules::{Rule, TypeError};
+pub use types::{is_compatible, is_const, measured, merged, pointer_to, with_const, without_last};
+pub use unary::{address, cast, deny, deref, sign, size_of_judged, size_of_type};
