@@ -6,3 +6,6 @@ pub mod Values
 pub mod Pairs
 pub mod Operators
 pub mod Unary
+pub mod Places
+pub mod Choosing
+pub mod Storing
