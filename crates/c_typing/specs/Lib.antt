@@ -9,3 +9,4 @@ pub mod Unary
 pub mod Places
 pub mod Choosing
 pub mod Storing
+pub mod Calling

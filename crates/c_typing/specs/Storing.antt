@@ -8,7 +8,7 @@ use Rattle.rank_range.specs.Kinds.{usual, promoted}
 use Rattle.c_types.specs.declared.ctype.CType.{CType}
 use Rattle.c_types.specs.declared.expression.Expr.{Expr}
 use Rattle.c_types.specs.declared.expression.Counted.{Counted}
-use Rattle.c_types.specs.declared.expression.Counted.TheVariants as counted
+use Rattle.c_types.specs.declared.expression.Counted.TheVariants as by
 use Rattle.c_types.specs.declared.expression.Direction.{Direction}
 use Rattle.c_types.specs.declared.expression.Direction.TheVariants as direction
 use Rattle.c_types.specs.declared.expression.Given.{Given}
@@ -72,7 +72,7 @@ count_rows s =
     ∷ []
 
 abbrev pub counted_in : Class → Counted
-counted_in c = if is_pointer c then counted.Pointer (scale_in c) else counted.Number (kind_in c)
+counted_in c = if is_pointer c then by.Pointer (scale_in c) else by.Number (kind_in c)
 
 abbrev pub counted : CType → Expr → Class → Direction → Given → Result Judged Rule
 counted t e c direction given = Ok (judged.Value (plain t (counting e (counted_in c) direction given)))

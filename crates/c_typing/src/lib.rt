@@ -2,6 +2,7 @@
 //! the rules that it breaks.
 #![tactic(auto)]
 
+mod calling;
 mod choosing;
 mod classes;
 mod judged;
@@ -15,6 +16,7 @@ mod types;
 mod unary;
 mod values;
 
+pub use calling::{Arguments, call, dropped, lesser, switched, tested};
 pub use choosing::{comma, conditional};
 pub use classes::{Class, Target, class_of, class_of_type};
 pub use judged::{Callee, Judged, Sort, Value};

@@ -109,8 +109,12 @@ pub fn count(
     }
     match judged {
         Judged::Place { of, tree } => counted(of, tree, spot.class, direction, given),
-        other => {
-            drop(other);
+        Judged::Value(value) => {
+            drop(value);
+            Err(TypeError::Broken(Rule::NotAssignable))
+        }
+        Judged::Function { of, callee: _ } => {
+            drop(of);
             Err(TypeError::Broken(Rule::NotAssignable))
         }
     }
@@ -251,8 +255,13 @@ pub fn assign(
     }
     match a {
         Judged::Place { of, tree } => assign_place(alloc, structs, of, tree, b),
-        other => {
-            drop(other);
+        Judged::Value(value) => {
+            drop(value);
+            drop(b);
+            Err(TypeError::Broken(Rule::NotAssignable))
+        }
+        Judged::Function { of, callee: _ } => {
+            drop(of);
             drop(b);
             Err(TypeError::Broken(Rule::NotAssignable))
         }
@@ -355,8 +364,13 @@ pub fn update(
     }
     match a {
         Judged::Place { of, tree } => updated(alloc, op, spot.class, right, of, tree, b),
-        other => {
-            drop(other);
+        Judged::Value(value) => {
+            drop(value);
+            drop(b);
+            Err(TypeError::Broken(Rule::NotAssignable))
+        }
+        Judged::Function { of, callee: _ } => {
+            drop(of);
             drop(b);
             Err(TypeError::Broken(Rule::NotAssignable))
         }
@@ -412,25 +426,60 @@ fn number_rule(spot: Spot, right: Class) -> Option<Rule>
     None
 }
 
-/// The step of an assignment with an operator, and the kind to which the right operand is converted.
-fn update_plan(op: Binary, left: Class, right: Class) -> (Joining, Kind)
-    ensures step { result.0 ≡ storing.update_step op left right }
-    ensures kind { result.1 ≡ storing.update_kind op left right }
+/// The step of an assignment with an operator.
+fn update_step(op: Binary, left: Class, right: Class) -> Joining
+    ensures { result ≡ storing.update_step op left right }
 {
     if left.is_pointer() {
-        let direction = match op {
-            Binary::Subtract => Direction::Down,
-            _ => Direction::Up,
+        return Joining::Advance {
+            direction: direction_of(op),
+            scale: left.scale(),
         };
-        let scale = left.scale();
-        return (Joining::Advance { direction, scale }, right.kind());
     }
     let kind = left.kind();
-    let (at, to) = match op {
-        Binary::ShiftLeft | Binary::ShiftRight => (kind.promoted(), right.kind().promoted()),
-        _ => (usual(kind, right.kind()), usual(kind, right.kind())),
-    };
-    (Joining::Update { op, kind, at }, to)
+    Joining::Update {
+        op,
+        kind,
+        at: working_kind(op, kind, right.kind()),
+    }
+}
+
+/// The kind to which the right operand is converted.
+fn update_kind(op: Binary, left: Class, right: Class) -> Kind
+    ensures { result ≡ storing.update_kind op left right }
+{
+    if left.is_pointer() {
+        return right.kind();
+    }
+    right_kind(op, left.kind(), right.kind())
+}
+
+fn direction_of(op: Binary) -> Direction
+    ensures { result ≡ storing.direction_of op }
+{
+    match op {
+        Binary::Subtract => Direction::Down,
+        _ => Direction::Up,
+    }
+}
+
+/// The kind in which an operator works that assigns.
+fn working_kind(op: Binary, left: Kind, right: Kind) -> Kind
+    ensures { result ≡ storing.working_kind op left right }
+{
+    match op {
+        Binary::ShiftLeft | Binary::ShiftRight => left.promoted(),
+        _ => usual(left, right),
+    }
+}
+
+fn right_kind(op: Binary, left: Kind, right: Kind) -> Kind
+    ensures { result ≡ storing.right_kind op left right }
+{
+    match op {
+        Binary::ShiftLeft | Binary::ShiftRight => right.promoted(),
+        _ => usual(left, right),
+    }
 }
 
 fn updated(
@@ -444,7 +493,8 @@ fn updated(
 ) -> Result<Judged, TypeError>
     ensures { Tells result (storing.updated op left right of tree value) }
 {
-    let (step, to) = update_plan(op, left, right);
+    let step = update_step(op, left, right);
+    let to = update_kind(op, left, right);
     let Value {
         of: from,
         tree: b,
