@@ -10,3 +10,4 @@ pub mod Places
 pub mod Choosing
 pub mod Storing
 pub mod Calling
+pub mod Laws
