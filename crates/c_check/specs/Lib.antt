@@ -1,0 +1,4 @@
+pub mod Broken
+pub mod Words
+pub mod Shapes
+pub mod Sight

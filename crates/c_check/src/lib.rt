@@ -1,0 +1,13 @@
+//! The names and types of a source (C11, 6.2, 6.7 and 6.9): which names are in scope, which types declarators make, and which rules
+//! are broken.
+#![tactic(auto)]
+
+mod broken;
+mod shapes;
+mod sight;
+mod words;
+
+pub use broken::Broken;
+pub use shapes::{Built, Extent, Shape, applied};
+pub use sight::{Marks, Sight};
+pub use words::TypeWords;
