@@ -2,3 +2,5 @@ pub mod Broken
 pub mod Words
 pub mod Shapes
 pub mod Sight
+pub mod Headers
+pub mod Naming

@@ -3,11 +3,15 @@
 #![tactic(auto)]
 
 mod broken;
+mod headers;
+mod naming;
 mod shapes;
 mod sight;
 mod words;
 
 pub use broken::Broken;
+pub use headers::KnownHeaders;
+pub use naming::{Found, copied_function, look_up_name};
 pub use shapes::{Built, Extent, Shape, applied};
 pub use sight::{Marks, Sight};
 pub use words::TypeWords;

@@ -1,6 +1,5 @@
 -- Calls (C11, 6.5.2.2), and values that are tested or dropped.
 use Rattle.std.specs.Prelude.{ℕ, ◌==◌, nat_le, if◌then◌else◌, not, Bool, true, false, List, [], ◌∷◌, ◌++◌, length, Option, Some, None, Result, Ok, Err}
-use denote.Ref.{Bor}
 use Rattle.am_base.specs.declared.calls.LibCall.TheVariants as lib
 use Rattle.rank_range.specs.declared.kinds.Kind.{Kind}
 use Rattle.rank_range.specs.Kinds.{promoted}
@@ -39,8 +38,8 @@ unfoldable pub promoted_argument : Structs → Judged → Result Expr Rule
 promoted_argument structs j = promoted_value (class_of structs (used j)) (used j)
 
 -- An argument is stored as its parameter, as an assignment would.
-abbrev pub passed : Structs → Option (Bor CType) → Judged → Result Expr Rule
-passed structs (Some t) j = stored structs t.now rule.StructUsed j
+abbrev pub passed : Structs → Option CType → Judged → Result Expr Rule
+passed structs (Some t) j = stored structs t rule.StructUsed j
 passed structs None j = promoted_argument structs j
 
 abbrev pub no_arguments : Arguments
@@ -51,7 +50,7 @@ abbrev pub with_passed : Result Expr Rule → Arguments → Arguments
 with_passed (Ok e) a = record { rule = a.rule; trees = a.trees ++ e ∷ [] }
 with_passed (Err r) a = record { rule = lesser a.rule (Some r); trees = a.trees ++ alone (operand.Number 0) ∷ [] }
 
-unfoldable pub with_argument : Structs → Option (Bor CType) → Judged → Arguments → Arguments
+unfoldable pub with_argument : Structs → Option CType → Judged → Arguments → Arguments
 with_argument structs to j a = with_passed (passed structs to j) a
 
 -- A function takes as many arguments as it has parameters, and `printf` takes more.

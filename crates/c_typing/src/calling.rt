@@ -1,6 +1,7 @@
 //! Calls (C11, 6.5.2.2), and values that are tested or dropped.
 
 ghost use Rattle.std.specs.Prelude.{◌≡◌, IfOk, OnOk};
+ghost use Rattle.std.specs.Option.{option_copied};
 ghost use Rattle.c_typing.specs.Rules.{Tells};
 ghost use Rattle.c_typing.specs.Rules as rules;
 ghost use Rattle.c_typing.specs.Calling as calling;
@@ -43,7 +44,7 @@ impl Arguments {
         to: Option<&CType>,
         judged: Judged,
     ) -> Result<(), AllocError>
-        ensures { OnOk result (self.new ≡ calling.with_argument structs.now to.entry judged self.old) }
+        ensures { OnOk result (self.new ≡ calling.with_argument structs.now (option_copied to.entry) judged self.old) }
     {
         let passed = match to {
             Some(to) => stored(alloc, structs, to, Rule::StructUsed, judged),

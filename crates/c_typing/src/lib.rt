@@ -28,3 +28,4 @@ pub use rules::{Rule, TypeError};
 pub use storing::{assign, count, stored, update};
 pub use types::{is_compatible, is_const, measured, merged, pointer_to, with_const, without_last};
 pub use unary::{address, cast, deny, deref, sign, size_of_judged, size_of_type};
+pub use values::number;
