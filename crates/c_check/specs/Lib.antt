@@ -4,3 +4,4 @@ pub mod Shapes
 pub mod Sight
 pub mod Headers
 pub mod Naming
+pub mod State

@@ -3,6 +3,7 @@
 #![tactic(auto)]
 
 mod broken;
+mod checker;
 mod headers;
 mod naming;
 mod shapes;
@@ -10,6 +11,7 @@ mod sight;
 mod words;
 
 pub use broken::Broken;
+pub use checker::{Checker, Mode};
 pub use headers::KnownHeaders;
 pub use naming::{Found, copied_function, look_up_name};
 pub use shapes::{Built, Extent, Shape, applied};

@@ -98,7 +98,7 @@ fn null_pointer(alloc: Global, of: &CType) -> Result<Found, AllocError>
     })))
 }
 
-fn alone(alloc: Global, first: Operand) -> Expr
+pub(crate) fn alone(alloc: Global, first: Operand) -> Expr
     ensures { result ≡ naming.alone first }
 {
     Expr {
