@@ -5,3 +5,4 @@ pub mod Sight
 pub mod Headers
 pub mod Naming
 pub mod State
+pub mod Expressions

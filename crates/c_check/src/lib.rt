@@ -4,6 +4,7 @@
 
 mod broken;
 mod checker;
+mod expressions;
 mod headers;
 mod naming;
 mod shapes;
