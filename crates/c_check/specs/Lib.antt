@@ -6,3 +6,8 @@ pub mod Headers
 pub mod Naming
 pub mod State
 pub mod Expressions
+pub mod Gathered
+pub mod Structures
+pub mod Constants
+pub mod Scopes
+pub mod Parameters

@@ -4,15 +4,21 @@
 
 mod broken;
 mod checker;
+mod constants;
 mod expressions;
+mod gathered;
 mod headers;
 mod naming;
+mod parameters;
 mod shapes;
 mod sight;
+mod structures;
 mod words;
 
 pub use broken::Broken;
 pub use checker::{Checker, Mode};
+pub use constants::ParamType;
+pub use gathered::{Gathered, Specified};
 pub use headers::KnownHeaders;
 pub use naming::{Found, copied_function, look_up_name};
 pub use shapes::{Built, Extent, Shape, applied};

@@ -3,6 +3,7 @@
 ghost use Rattle.std.specs.Prelude.{◌≡◌, OnOk};
 ghost use Rattle.std.specs.Option.{option_copied};
 ghost use Rattle.c_check.specs.Sight as sight;
+ghost use Rattle.c_check.specs.Scopes as scopes;
 
 use am_base::Bytes;
 use c_types::{Named, Scope, StructType, Tagged};
@@ -129,5 +130,26 @@ impl Sight {
             tags: self.block_tags.names.len(),
         });
         before
+    }
+
+    /// Ends the innermost scope; `before` was the innermost one when it began.
+    #[tactic(auto, unfolding(crate::specs::Scopes::closed))]
+    pub fn close(&mut self, before: Option<Marks>)
+        ensures { self.new ≡ scopes.closed before self.old }
+    {
+        if let Some(marks) = self.opened {
+            cut(&mut self.block, marks.names);
+            cut(&mut self.block_tags, marks.tags);
+        }
+        self.opened = before;
+    }
+}
+
+/// Takes what was declared behind a mark out of scope.
+fn cut<T: Drop>(scope: &mut Scope<T>, mark: usize)
+    ensures { scope.new ≡ scopes.cut mark scope.old }
+{
+    if mark <= scope.names.len() && mark <= scope.meanings.len() {
+        scope.close(mark);
     }
 }

@@ -1,6 +1,7 @@
 //! Types that are made from types, and how types compare.
 
-ghost use Rattle.std.specs.Prelude.{◌≡◌, ◌<◌, ◌*◌, IfOk, IfSome, length, None};
+ghost use Rattle.std.specs.Prelude.{◌≡◌, ◌<◌, ◌≤◌, ◌*◌, IfOk, IfSome, length, None};
+ghost use Rattle.c_types.specs.Sizes.{size_limit};
 ghost use Rattle.c_typing.specs.Types as types;
 ghost use Rattle.c_typing.specs.Types.{limited, base_measure, part_measure, last_pointer, with_const_at, is_const_by, are_parts, is_part, same_base, same_kind, merged_parts, merged_part};
 
@@ -41,14 +42,16 @@ pub fn last_part(of: &CType) -> Option<Part>
 /// more bytes than an object may have.
 #[tactic(auto, unfolding(crate::specs::Types::measured))]
 pub fn measured(of: &CType, structs: &[StructType]) -> Option<u64>
-    ensures { result ≡ types.measured structs.now of.now }
+    ensures value { result ≡ types.measured structs.now of.now }
+    ensures within { IfSome result (λ n. n ≤ size_limit) }
 {
     measured_parts(base_measure(of.base, structs), of.parts.as_slice())
 }
 
 /// The same for what is made from something of so many bytes.
 pub fn measured_parts(base: Option<u64>, parts: &[Part]) -> Option<u64>
-    ensures { result ≡ types.measured_by base parts.now }
+    ensures value { result ≡ types.measured_by base parts.now }
+    ensures within { IfSome base (λ n. n ≤ size_limit) → IfSome result (λ n. n ≤ size_limit) }
 {
     let mut size = base;
     for part in parts {
@@ -58,7 +61,8 @@ pub fn measured_parts(base: Option<u64>, parts: &[Part]) -> Option<u64>
 }
 
 pub(crate) fn base_measure(base: Base, structs: &[StructType]) -> Option<u64>
-    ensures { result ≡ base_measure structs.now base }
+    ensures value { result ≡ base_measure structs.now base }
+    ensures within { IfSome result (λ n. n ≤ size_limit) }
 {
     match base {
         Base::Void => None,
@@ -71,7 +75,8 @@ pub(crate) fn base_measure(base: Base, structs: &[StructType]) -> Option<u64>
 }
 
 fn part_measure(inner: Option<u64>, part: Part) -> Option<u64>
-    ensures { result ≡ part_measure inner part }
+    ensures value { result ≡ part_measure inner part }
+    ensures within { IfSome result (λ n. n ≤ size_limit) }
 {
     match part {
         Part::Pointer { .. } => Some(8),
@@ -84,7 +89,8 @@ fn part_measure(inner: Option<u64>, part: Part) -> Option<u64>
 }
 
 fn multiplied(count: u64, size: u64) -> Option<u64>
-    ensures { result ≡ limited (count * size) }
+    ensures value { result ≡ limited (count * size) }
+    ensures within { IfSome result (λ n. n ≤ size_limit) }
 {
     match count.checked_mul(size) {
         Some(bytes) => limited(bytes),
@@ -93,7 +99,8 @@ fn multiplied(count: u64, size: u64) -> Option<u64>
 }
 
 fn limited(bytes: u64) -> Option<u64>
-    ensures { result ≡ limited bytes }
+    ensures value { result ≡ limited bytes }
+    ensures within { IfSome result (λ n. n ≤ size_limit) }
 {
     if bytes <= LIMIT { Some(bytes) } else { None }
 }
