@@ -11,3 +11,4 @@ pub mod Structures
 pub mod Constants
 pub mod Scopes
 pub mod Parameters
+pub mod Judging
