@@ -9,3 +9,17 @@ pub mod Shaping
 pub mod Acting
 pub mod Meaning
 pub mod Bounding
+pub mod Adding
+pub mod Parts
+pub mod Sizing
+pub mod Emitting
+pub mod Pieces
+pub mod StatementSizing
+pub mod Stating
+pub mod Turning
+pub mod Founding
+pub mod Needing
+pub mod Refusing
+pub mod Covering
+pub mod Least
+pub mod Generating

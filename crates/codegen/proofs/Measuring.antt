@@ -22,7 +22,7 @@ use Rattle.c_types.specs.declared.expression.Given.TheVariants.{New, Old}
 use Rattle.c_model.specs.Run.{counted_kind}
 use Rattle.codegen.specs.Layout.{Part, nothing, one, ◌then◌, over, negation, truths, jump_where, in_order, operand_part, converted, on_words, scaled, offset_part, moving, against, amount, given_part, step_part, expr_step, expr_part, operand_code, step_code}
 use Rattle.codegen.specs.Sizes.{total, operand_size, step_size, expr_size_step, expr_size, operand_sized, step_sized}
-use Rattle.codegen.specs.Covered.{all_true, operand_covered, step_covered, expr_covered_step, expr_covered}
+use Rattle.codegen.specs.Covered.{all_true, operand_covered, step_covered, expr_covered_step, expr_covered, operand_is_covered, step_is_covered}
 use Rattle.codegen.proofs.Spanning.{HasAt, IsCalm, AreCalm, Saying}
 use Rattle.codegen.proofs.Valuing.{operand_code_roll, step_code_roll, expr_code_roll}
 
@@ -154,11 +154,6 @@ measured_count c direction Old =
     (measured_one (instr.Extend (counted_kind c)) tt (λ place. tt)))))))))
 
 -- sizes and coverings of operands and steps
-operand_is_covered : Operand → Bool
-operand_is_covered = fold-Operand Bool Bool Bool operand_covered step_covered expr_covered_step
-
-step_is_covered : Step → Bool
-step_is_covered = fold-Step Bool Bool Bool operand_covered step_covered expr_covered_step
 
 pub operand_size_roll : (x : Operand-F Operand Step Expr)
     → operand_sized (roll-Operand x) ≡ operand_size (map-Operand Operand Step Expr ℕ ℕ ℕ operand_sized step_sized expr_size x)
@@ -175,17 +170,17 @@ pub expr_size_roll : (x : Expr-F Operand Step Expr)
 unfolding expr_size operand_sized step_sized
 expr_size_roll x = fold-roll-Expr ℕ ℕ ℕ operand_size step_size expr_size_step x
 
-operand_covered_roll : (x : Operand-F Operand Step Expr)
+pub operand_covered_roll : (x : Operand-F Operand Step Expr)
     → operand_is_covered (roll-Operand x) ≡ operand_covered (map-Operand Operand Step Expr Bool Bool Bool operand_is_covered step_is_covered expr_covered x)
 unfolding expr_covered operand_is_covered step_is_covered
 operand_covered_roll x = fold-roll-Operand Bool Bool Bool operand_covered step_covered expr_covered_step x
 
-step_covered_roll : (x : Step-F Operand Step Expr)
+pub step_covered_roll : (x : Step-F Operand Step Expr)
     → step_is_covered (roll-Step x) ≡ step_covered (map-Step Operand Step Expr Bool Bool Bool operand_is_covered step_is_covered expr_covered x)
 unfolding expr_covered operand_is_covered step_is_covered
 step_covered_roll x = fold-roll-Step Bool Bool Bool operand_covered step_covered expr_covered_step x
 
-expr_covered_roll : (x : Expr-F Operand Step Expr)
+pub expr_covered_roll : (x : Expr-F Operand Step Expr)
     → expr_covered (roll-Expr x) ≡ expr_covered_step (map-Expr Operand Step Expr Bool Bool Bool operand_is_covered step_is_covered expr_covered x)
 unfolding expr_covered operand_is_covered step_is_covered
 expr_covered_roll x = fold-roll-Expr Bool Bool Bool operand_covered step_covered expr_covered_step x
