@@ -8,9 +8,7 @@ use Rattle.am_base.specs.declared.calls.MpiCall.{MpiCall}
 use Rattle.rank_range.specs.declared.kinds.Kind.{Kind}
 use Rattle.rank_range.specs.declared.operators.Unary.{Unary as UnaryOperator}
 use Rattle.rank_range.specs.declared.operators.Binary.{Binary as Operator}
-use Rattle.c_types.specs.declared.expression.Operand.{Operand}
 use Rattle.c_types.specs.declared.expression.Operand.TheVariants as operand
-use Rattle.c_types.specs.declared.expression.Step.{Step}
 use Rattle.c_types.specs.declared.expression.Step.TheVariants as step
 use Rattle.c_types.specs.declared.expression.Expr.{Expr}
 use Rattle.c_types.specs.declared.expression.Operand.TheOpen.{Operand-F, Step-F}

@@ -16,11 +16,11 @@ use Rattle.c_model.specs.Statements.{parameters_of, parameter_count}
 use Rattle.codegen.specs.declared.draft.Draft.{Draft}
 use Rattle.codegen.specs.Layout.{Part, nothing, one, ◌then◌, in_order}
 use Rattle.codegen.specs.Sizes.{total}
-use Rattle.codegen.specs.Statements.{Within, Targets, stmt_piece, in_order_part, sizes_of, pieces_of, end_targets, body_part, function_part, function_size, functions_part, entry_at, entries_from, offset_in, program_part}
+use Rattle.codegen.specs.Statements.{Within, stmt_piece, in_order_part, sizes_of, pieces_of, end_targets, body_part, function_part, function_size, functions_part, entry_at, entries_from, offset_in, program_part}
 use Rattle.codegen.specs.Making.{Adds, at_most_word}
 use Rattle.codegen.proofs.Shaping.{Sized, sized_none, sized_one, sized_then, sized_pieces}
 use Rattle.codegen.proofs.Meaning.{sized_function}
-use Rattle.codegen.proofs.Adding.{adds_then, adds_same, place_is}
+use Rattle.codegen.proofs.Adding.{adds_then, adds_same}
 use Rattle.codegen.proofs.Emitting.{adds_all}
 
 module _ (object : ℕ → ℕ) where

@@ -1,22 +1,21 @@
 -- What is answered to a program, from what its steps tell.
-use Rattle.std.proofs.Common.{◌≡◌, ℕ, ◌+◌, ◌<◌, ◌≤◌, ◌^◌, List, [], ◌∷◌, ◌++◌, length, refl, sym, ap, ◌∙◌, subst, arith}
+use Rattle.std.proofs.Common.{◌≡◌, ℕ, ◌+◌, ◌<◌, ◌≤◌, ◌^◌, List, [], ◌++◌, length, sym, ap, ◌∙◌, arith}
 use Rattle.std.specs.Prelude.{Option, None, Some, Result, Ok, Err}
 use Rattle.rank_range.specs.declared.run.Segment.{Segment}
 use Rattle.vm_code.specs.declared.code.Code.{Code}
 use Rattle.vm_code.specs.declared.code.Function.{Function as CodeFunction}
-use Rattle.vm_code.specs.declared.instr.Instr.{Instr}
 use Rattle.vm_code.specs.Bounded.{IsBounded}
 use Rattle.c_types.specs.declared.program.Program.{Program}
 use Rattle.c_types.specs.declared.program.Main.{Main}
 use Rattle.c_types.specs.declared.program.TokenAt.{TokenAt}
-use Rattle.c_types.specs.Need.{IsPastLimit, IsSimple, IsTooComplex}
+use Rattle.c_types.specs.Need.{IsSimple, IsTooComplex}
 use Rattle.codegen.specs.declared.draft.Draft.{Draft}
 use Rattle.codegen.specs.declared.error.GenError.{GenError}
 use Rattle.codegen.specs.declared.error.GenError.TheVariants.{TooComplex, NoMain, NotCovered, TooLong, Memory}
 use Rattle.codegen.specs.Statements.{entries_from, offset_in, program_part, IsCodeOf}
 use Rattle.codegen.specs.Making.{Adds}
 use Rattle.codegen.specs.Checking.{found_in_all}
-use Rattle.codegen.specs.Answers.{IsReady, IsMade, IsTooLong, Refuses, Answers, Checks, Makes}
+use Rattle.codegen.specs.Answers.{IsReady, Refuses, Answers, Checks, Makes}
 use Rattle.codegen.proofs.Least.{found_is_first}
 use Rattle.codegen.proofs.Meaning.{means_program}
 use Rattle.codegen.proofs.Bounding.{loops_tick}

@@ -23,3 +23,4 @@ pub mod Refusing
 pub mod Covering
 pub mod Least
 pub mod Generating
+pub mod Answering

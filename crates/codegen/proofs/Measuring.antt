@@ -1,5 +1,5 @@
 -- How many instructions the code of an expression has, that its jumps lead forward, and that it is calm where it is covered.
-use Rattle.std.proofs.Common.{◌≡◌, ℕ, zero, suc, ◌+◌, ◌<◌, ◌≤◌, Bool, true, false, List, [], ◌∷◌, ◌++◌, map, length, refl, sym, ap, ◌∙◌, subst, arith, length-append, true≢false}
+use Rattle.std.proofs.Common.{◌≡◌, ℕ, ◌+◌, ◌<◌, Bool, true, false, List, [], ◌∷◌, ◌++◌, map, length, refl, sym, ap, ◌∙◌, subst, arith, length-append, true≢false}
 use Rattle.std.specs.Prelude.{◌&&◌}
 use Rattle.vm_code.specs.declared.instr.Instr.{Instr}
 use Rattle.vm_code.specs.declared.instr.Instr.TheVariants as instr
@@ -7,8 +7,8 @@ use Rattle.rank_range.specs.declared.kinds.Kind.{Kind}
 use Rattle.rank_range.specs.declared.kinds.Kind.TheVariants as kind
 use Rattle.rank_range.specs.declared.operators.Binary.{Binary as Operator}
 use Rattle.rank_range.specs.declared.operators.Binary.TheVariants as op
-use Rattle.c_types.specs.declared.expression.Operand.{Operand, fold-Operand, map-Operand}
-use Rattle.c_types.specs.declared.expression.Step.{Step, fold-Step, map-Step}
+use Rattle.c_types.specs.declared.expression.Operand.{Operand, map-Operand}
+use Rattle.c_types.specs.declared.expression.Step.{Step, map-Step}
 use Rattle.c_types.specs.declared.expression.Expr.{Expr, map-Expr}
 use Rattle.c_types.specs.declared.expression.Operand.TheOpen.{Operand-F, Step-F, Expr-F}
 use Rattle.c_types.specs.declared.expression.Operand.TheViews.{roll-Operand, roll-Step, roll-Expr}
@@ -20,7 +20,7 @@ use Rattle.c_types.specs.declared.expression.Counted.{Counted}
 use Rattle.c_types.specs.declared.expression.Given.{Given}
 use Rattle.c_types.specs.declared.expression.Given.TheVariants.{New, Old}
 use Rattle.c_model.specs.Run.{counted_kind}
-use Rattle.codegen.specs.Layout.{Part, nothing, one, ◌then◌, over, negation, truths, jump_where, in_order, operand_part, converted, on_words, scaled, offset_part, moving, against, amount, given_part, step_part, expr_step, expr_part, operand_code, step_code}
+use Rattle.codegen.specs.Layout.{Part, nothing, one, ◌then◌, over, negation, truths, in_order, operand_part, converted, on_words, scaled, offset_part, moving, against, amount, step_part, expr_part, operand_code, step_code}
 use Rattle.codegen.specs.Sizes.{total, operand_size, step_size, expr_size_step, expr_size, operand_sized, step_sized}
 use Rattle.codegen.specs.Covered.{all_true, operand_covered, step_covered, expr_covered_step, expr_covered, operand_is_covered, step_is_covered}
 use Rattle.codegen.proofs.Spanning.{HasAt, IsCalm, AreCalm, Saying}

@@ -16,7 +16,7 @@ use Rattle.c_types.specs.declared.expression.OffsetBy.{OffsetBy}
 use Rattle.c_types.specs.declared.expression.Direction.{Direction}
 use Rattle.c_types.specs.declared.expression.Counted.{Counted}
 use Rattle.c_types.specs.declared.expression.Given.{Given}
-use Rattle.codegen.specs.Layout.{Part, one, ◌then◌, over, negation, truths, in_order, converted, on_words, scaled, offset_part, moving, step_part, operand_code, step_code, expr_part}
+use Rattle.codegen.specs.Layout.{one, ◌then◌, over, negation, truths, in_order, converted, on_words, scaled, offset_part, moving, step_part, operand_code, step_code, expr_part}
 use Rattle.codegen.specs.Sizes.{total, count_size, operand_sized, step_sized, expr_size}
 use Rattle.codegen.proofs.Valuing.{operand_code_roll, step_code_roll}
 use Rattle.codegen.proofs.Measuring.{operand_size_roll, step_size_roll}

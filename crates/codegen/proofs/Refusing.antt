@@ -1,7 +1,7 @@
 -- The first full expression with too many pending values, from what its steps find.
-use Rattle.std.proofs.Common.{◌≡◌, ◌⊎◌, inl, inr, ℕ, zero, suc, ◌+◌, ◌-◌, ◌<◌, ◌≤◌, min, Bool, true, false, List, [], ◌∷◌, ◌++◌, map, take, length, get_or, refl, sym, ap, ◌∙◌, subst, arith}
-use Rattle.std.specs.Prelude.{Option, None, Some, if◌then◌else◌, nat_lt, nat_le, nat_eq, ◌&&◌, ◌||◌}
-use Rattle.std.specs.List.{flat_map, Contains}
+use Rattle.std.proofs.Common.{◌≡◌, ℕ, ◌+◌, ◌-◌, ◌<◌, ◌≤◌, min, true, false, List, [], ◌∷◌, ◌++◌, map, take, length, get_or, refl, sym, ap, ◌∙◌, arith}
+use Rattle.std.specs.Prelude.{Option, None, Some, if◌then◌else◌, nat_lt}
+use Rattle.std.specs.List.{flat_map}
 use Rattle.std.proofs.lemmas.List.{take_more, take_all, append-nil}
 use Rattle.std.proofs.lemmas.Grind.{flat_map-append}
 use Rattle.std.proofs.lemmas.Bool.Decides.{nat_tests}
@@ -13,13 +13,11 @@ use Rattle.c_types.specs.declared.statement.Stmt.TheFolds.{fold-roll-Stmt}
 use Rattle.c_types.specs.declared.statement.Declared.{Declared}
 use Rattle.c_types.specs.declared.statement.Store.{Store}
 use Rattle.c_types.specs.declared.statement.Case.{Case}
-use Rattle.c_types.specs.declared.program.Program.{Program}
 use Rattle.c_types.specs.declared.program.Function.{Function}
 use Rattle.c_types.specs.declared.program.Body.{Body}
 use Rattle.c_types.specs.declared.program.TokenAt.{TokenAt}
-use Rattle.c_types.specs.Need.{Pending, pending, pending_if, pending_limit, need_of, in_store, in_declared, joined, joined_if, pending_step, pending_of, IsPastLimit, IsSimple, IsTooComplex}
-use Rattle.c_types.specs.Places.{IsNotBehind}
-use Rattle.codegen.specs.Checking.{not_behind, first_of, found_with, found_in, found_in_body, found_in_all}
+use Rattle.c_types.specs.Need.{Pending, pending, pending_if, pending_limit, need_of, in_store, in_declared, joined, pending_step, pending_of}
+use Rattle.codegen.specs.Checking.{first_of, found_with, found_in, found_in_body, found_in_all}
 
 -- ---- one full expression
 

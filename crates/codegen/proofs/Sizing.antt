@@ -1,6 +1,5 @@
 -- Sizes as they are computed, up to the greatest number of 32 bits.
-use Rattle.std.proofs.Common.{◌≡◌, ℕ, ◌+◌, ◌<◌, ◌≤◌, min, List, [], ◌∷◌, ◌++◌, map, take, length, get_or, refl, sym, ap, ◌∙◌, arith, rules}
-use Rattle.std.specs.Prelude.{Option, None, Some}
+use Rattle.std.proofs.Common.{◌≡◌, ℕ, ◌+◌, ◌<◌, ◌≤◌, min, List, [], ◌∷◌, ◌++◌, map, take, length, get_or, sym, ap, ◌∙◌, arith, rules}
 use Rattle.std.proofs.lemmas.List.{map_more, take_all}
 use Rattle.c_types.specs.declared.expression.Operand.{Operand}
 use Rattle.c_types.specs.declared.expression.Step.{Step}
@@ -8,10 +7,7 @@ use Rattle.c_types.specs.declared.expression.Expr.{Expr}
 use Rattle.c_types.specs.declared.expression.Given.{Given}
 use Rattle.c_types.specs.declared.expression.Given.TheVariants.{New, Old}
 use Rattle.c_types.specs.declared.expression.Operand.TheViews.{roll-Expr, out-Expr, the_lemmas}
-use Rattle.c_types.specs.declared.expression.FullExpr.{FullExpr}
-use Rattle.c_types.specs.declared.statement.Declared.{Declared}
-use Rattle.c_types.specs.declared.statement.Store.{Store}
-use Rattle.codegen.specs.Layout.{Part, ◌then◌, in_order, operand_code, step_code, expr_part}
+use Rattle.codegen.specs.Layout.{◌then◌, in_order, operand_code, step_code, expr_part}
 use Rattle.codegen.specs.Sizes.{total, count_size, operand_sized, step_sized, expr_size}
 use Rattle.codegen.specs.Making.{at_most_word}
 use Rattle.codegen.proofs.Valuing.{expr_code_roll}

@@ -1,5 +1,5 @@
 -- What the emitters of statements add, from what their steps add.
-use Rattle.std.proofs.Common.{◌≡◌, ℕ, suc, ◌+◌, ◌<◌, ◌≤◌, ◌^◌, min, List, [], ◌∷◌, ◌++◌, map, take, length, get_or, refl, sym, ap, ◌∙◌, subst, arith, length-append}
+use Rattle.std.proofs.Common.{◌≡◌, ℕ, suc, ◌+◌, ◌≤◌, min, List, [], ◌∷◌, ◌++◌, map, take, length, refl, sym, ap, ◌∙◌, subst, arith}
 use Rattle.std.specs.Prelude.{Option, None, Some}
 use Rattle.vm_code.specs.declared.instr.Instr.{Instr}
 use Rattle.vm_code.specs.declared.instr.Instr.TheVariants as instr
@@ -9,14 +9,14 @@ use Rattle.c_types.specs.declared.statement.Stmt.TheVariants as stmt
 use Rattle.c_types.specs.declared.statement.Declared.{Declared}
 use Rattle.c_types.specs.declared.statement.Store.{Store}
 use Rattle.codegen.specs.declared.draft.Draft.{Draft}
-use Rattle.codegen.specs.Layout.{Part, nothing, one, ◌then◌, over, in_order, expr_part}
+use Rattle.codegen.specs.Layout.{Part, one, ◌then◌, over, in_order}
 use Rattle.codegen.specs.Sizes.{expr_size}
-use Rattle.codegen.specs.Statements.{Within, Targets, Piece, ticked, full_part, dropped_part, put_part, zeros_part, stores_part, declared_part, all_declared_part, again_part, returned_part, in_order_part, stmt_piece, if_piece}
+use Rattle.codegen.specs.Statements.{Within, Targets, Piece, ticked, full_part, put_part, zeros_part, stores_part, declared_part, all_declared_part, again_part, returned_part, in_order_part, stmt_piece, if_piece}
 use Rattle.codegen.specs.Making.{Adds, at_most_word, store_part}
 use Rattle.codegen.proofs.Shaping.{Sized, SizedPiece, sized_piece, sized_full, has_size}
-use Rattle.codegen.proofs.Adding.{adds_then, adds_none, adds_same, adds_is, adds_over, adds_over_last, place_is}
-use Rattle.codegen.proofs.Emitting.{then_assoc, adds_next, adds_all}
-use Rattle.codegen.proofs.Sizing.{cut_sum, cut_more}
+use Rattle.codegen.proofs.Adding.{adds_then, adds_same, adds_is, adds_over, adds_over_last, place_is}
+use Rattle.codegen.proofs.Emitting.{then_assoc, adds_all}
+use Rattle.codegen.proofs.Sizing.{cut_more}
 use Rattle.codegen.proofs.Pieces.{piece_if, piece_if_else, piece_block, piece_labelled, piece_return, piece_express}
 
 -- the same part at an equal value

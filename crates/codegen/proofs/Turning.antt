@@ -1,5 +1,5 @@
 -- What the emitters of loops add, from what their steps add.
-use Rattle.std.proofs.Common.{◌≡◌, ℕ, suc, ◌+◌, ◌<◌, ◌≤◌, ◌^◌, min, List, [], ◌∷◌, length, refl, sym, ap, ◌∙◌, subst, arith}
+use Rattle.std.proofs.Common.{◌≡◌, ℕ, ◌+◌, ◌≤◌, min, List, ◌∷◌, length, sym, ap, ◌∙◌, subst, arith}
 use Rattle.std.specs.Prelude.{Option, None, Some}
 use Rattle.vm_code.specs.declared.instr.Instr.TheVariants as instr
 use Rattle.c_types.specs.declared.expression.FullExpr.{FullExpr}
@@ -7,12 +7,12 @@ use Rattle.c_types.specs.declared.statement.Stmt.{Stmt}
 use Rattle.c_types.specs.declared.statement.Stmt.TheVariants as stmt
 use Rattle.c_types.specs.declared.statement.Declared.{Declared}
 use Rattle.codegen.specs.declared.draft.Draft.{Draft}
-use Rattle.codegen.specs.Layout.{Part, one, ◌then◌}
+use Rattle.codegen.specs.Layout.{one, ◌then◌}
 use Rattle.codegen.specs.Sizes.{expr_size, dropped_size, test_size, again_size, all_declared_size}
 use Rattle.codegen.specs.Statements.{Within, Targets, Piece, ticked, full_part, dropped_part, all_declared_part, test_part, again_part, continue_place, stmt_piece, while_piece, do_piece, for_piece}
 use Rattle.codegen.specs.Making.{Adds, at_most_word, turns_to, turns_size, turns_part, for_turns_to, for_turns_size, for_turns_part}
 use Rattle.codegen.proofs.Shaping.{Sized, SizedPiece, sized_one, sized_then, sized_piece, sized_ticked, sized_full, sized_dropped, sized_test, sized_again, sized_all_declared, has_size}
-use Rattle.codegen.proofs.Adding.{adds_then, adds_same, adds_is, place_is}
+use Rattle.codegen.proofs.Adding.{adds_then, adds_same, adds_is}
 use Rattle.codegen.proofs.Emitting.{then_assoc}
 use Rattle.codegen.proofs.Sizing.{cut_sum, cut_more}
 use Rattle.codegen.proofs.Pieces.{piece_while, piece_do, piece_for}

@@ -1,5 +1,5 @@
 -- What is answered to a program: its code, or why there is none.
-use Rattle.std.specs.Prelude.{ℕ, ◌≡◌, ◌≤◌, ◌^◌, length, None, Some, Result, Ok, Err}
+use Rattle.std.specs.Prelude.{◌≡◌, ◌⊎◌, ◌≤◌, ◌^◌, length, None, Some, Result, Ok, Err}
 use Rattle.rank_range.specs.declared.run.Segment.{Segment}
 use Rattle.c_types.specs.declared.program.Program.{Program}
 use Rattle.c_types.specs.declared.program.Main.{Main}
@@ -64,3 +64,13 @@ Makes program segment main (Ok code) = IsCodeOf code program segment main
 Makes program segment main (Err TooLong) = 2 ^ 32 ≤ length (program_part program segment main 0)
 Makes program segment main (Err Memory) = Unit {0}
 Makes program segment main (Err _) = ⊥
+
+-- A refusal that is true is answered, unless memory runs out.
+abbrev pub RefusalsAreAnswered : Type 0
+RefusalsAreAnswered =
+    (program : Program) (segment : Segment) (answer : Result Code GenError) (e : GenError) → Answers program segment answer → Refuses program segment e
+    → (e ≡ Memory → ⊥) → (answer ≡ Err e) ⊎ (answer ≡ Err Memory)
+
+-- Whatever the program and its segment, there is an answer that doesn't tell of memory.
+abbrev pub SomeAnswerIsThere : Type 0
+SomeAnswerIsThere = (program : Program) (segment : Segment) → (answer : Result Code GenError) × Answers program segment answer × (answer ≡ Err Memory → ⊥)

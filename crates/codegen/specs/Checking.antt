@@ -1,5 +1,5 @@
 -- Which full expression is the first to have too many pending values.
-use Rattle.std.specs.Prelude.{ℕ, ◌≡◌, List, [], ◌∷◌, Option, None, Some, if◌then◌else◌, nat_lt, nat_le, nat_eq, ◌&&◌, ◌||◌, Bool}
+use Rattle.std.specs.Prelude.{ℕ, List, [], ◌∷◌, Option, None, Some, if◌then◌else◌, nat_lt, nat_le, nat_eq, ◌&&◌, ◌||◌, Bool}
 use Rattle.std.specs.List.{flat_map}
 use Rattle.c_types.specs.declared.program.TokenAt.{TokenAt}
 use Rattle.c_types.specs.declared.program.Function.{Function}

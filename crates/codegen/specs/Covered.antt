@@ -1,5 +1,5 @@
 -- The programs whose code is shown to mean them: `main` calls no function of the program, and has no `switch`.
-use Rattle.std.specs.Prelude.{ℕ, ◌≡◌, ◌≤◌, ◌&&◌, Bool, true, false, List, [], ◌∷◌, length, map, Option, None, Some, slice_get}
+use Rattle.std.specs.Prelude.{◌≡◌, ◌≤◌, ◌&&◌, Bool, true, false, List, [], ◌∷◌, length, map, Option, None, Some, slice_get}
 use Rattle.c_types.specs.declared.expression.Operand.TheOpen.{Operand-F, Step-F, Expr-F}
 use Rattle.c_types.specs.declared.expression.Operand.{Operand, fold-Operand}
 use Rattle.c_types.specs.declared.expression.Step.{Step, fold-Step}

@@ -18,7 +18,10 @@ mod statements;
 use c_types::{Main, Program};
 use draft::Draft;
 pub use error::GenError;
-pub use laws::{laid_out_code_is_bounded, laid_out_code_means_its_program};
+pub use laws::{
+    laid_out_code_is_bounded, laid_out_code_means_its_program, refusals_are_answered,
+    some_answer_is_there,
+};
 use rank_range::Segment;
 use std::alloc::Global;
 use vm_code::Code;

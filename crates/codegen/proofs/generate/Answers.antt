@@ -1,5 +1,3 @@
-use Rattle.std.proofs.Common.{subst}
-use Rattle.codegen.specs.Answers.{Checks}
 use Rattle.codegen.proofs.Generating.{refused, answered}
 use Rattle.codegen.proofs.generate.Goals as goal
 

@@ -1,5 +1,5 @@
-use Rattle.std.proofs.Common.{refl, arith}
-use Rattle.codegen.proofs.Generating.{too_long, is_bounded, is_code}
+use Rattle.std.proofs.Common.{arith}
+use Rattle.codegen.proofs.Generating.{is_bounded}
 use Rattle.codegen.proofs.make.Goals as goal
 
 pub invariant_of-result : goal.invariant_of-result

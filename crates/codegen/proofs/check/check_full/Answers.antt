@@ -1,4 +1,4 @@
-use Rattle.codegen.proofs.Refusing.{full_fits, full_past}
+use Rattle.codegen.proofs.Refusing.{full_past}
 use Rattle.codegen.proofs.check.check_full.Goals as goal
 
 pub returns : goal.returns

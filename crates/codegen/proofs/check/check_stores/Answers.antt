@@ -1,5 +1,5 @@
 use Rattle.c_types.specs.Need.{in_store}
-use Rattle.codegen.proofs.Refusing.{found_next, found_whole, at_list}
+use Rattle.codegen.proofs.Refusing.{found_next, found_whole}
 use Rattle.codegen.proofs.check.check_stores.Goals as goal
 
 pub loop-store-preserved : goal.loop-store-preserved

@@ -1,4 +1,4 @@
-use Rattle.std.proofs.Common.{refl, sym, ap, ◌∙◌, map}
+use Rattle.std.proofs.Common.{refl, sym, ◌∙◌, map}
 use Rattle.codegen.specs.Covered.{all_true, expr_covered, operand_is_covered, step_is_covered}
 use Rattle.codegen.proofs.Covering.{covered_expr, covered_number, covered_local, covered_object, covered_call, covered_library, covered_mpi, covered_load, covered_convert, covered_unary, covered_not, covered_member, covered_count, covered_binary, covered_greater, covered_at_least, covered_sum, covered_difference, covered_and, covered_or, covered_comma, covered_assign, covered_copy, covered_update, covered_advance, covered_conditional, same_test, test_at, both_are, all_next, all_whole}
 use Rattle.codegen.proofs.covers.+covers.Goals as goal

@@ -1,5 +1,4 @@
-use Rattle.codegen.specs.Covered.{stores_covered}
-use Rattle.codegen.proofs.Covering.{store_covered, test_at, all_next, stores_whole}
+use Rattle.codegen.proofs.Covering.{store_covered, all_next, stores_whole}
 use Rattle.codegen.proofs.covers.covers_stores.Goals as goal
 
 pub loop-store-preserved : goal.loop-store-preserved

@@ -1,9 +1,8 @@
-use Rattle.std.proofs.Common.{◌∙◌, sym}
 use Rattle.std.proofs.lemmas.Result.{on_ok_weaker}
 use Rattle.vm_code.specs.declared.instr.Instr.TheVariants as instr
 use Rattle.codegen.specs.Layout.{step_code, expr_part}
 use Rattle.codegen.specs.Statements.{offset_in}
-use Rattle.codegen.proofs.Adding.{adds_none, adds_then}
+use Rattle.codegen.proofs.Adding.{adds_none}
 use Rattle.codegen.proofs.Parts.{code_operand_number, code_operand_local, code_operand_call, code_operand_library, code_step_load, code_step_convert, code_step_unary, code_step_not, code_step_member, code_step_binary, code_step_greater, code_step_atleast, code_step_difference, code_step_comma, code_step_assign, code_step_copy, code_step_count}
 use Rattle.codegen.proofs.Emitting.{adds_next, adds_all, expr_adds, operand_named, object_adds, call_adds, mpi_adds, step_named, right_adds, two_adds, last_adds, middle_adds, code_offset, code_update, code_advance, and_adds, or_adds, conditional_adds}
 use Rattle.codegen.proofs.expressions.+emit.Goals as goal

@@ -1,6 +1,4 @@
-use Rattle.std.proofs.Common.{refl, ap, ◌∙◌}
-use Rattle.codegen.specs.Sizes.{declared_size}
-use Rattle.codegen.specs.Making.{at_most_word}
+use Rattle.std.proofs.Common.{refl}
 use Rattle.codegen.proofs.Sizing.{size_next}
 use Rattle.codegen.proofs.Pieces.{piece_empty, piece_declare, piece_switch, piece_break, piece_continue}
 use Rattle.codegen.proofs.StatementSizing.{stmt_sized, stmts_all, piece_arm, express_arm, block_arm, if_arm, if_else_arm, while_arm, do_arm, for_arm, labelled_arm, return_arm}
