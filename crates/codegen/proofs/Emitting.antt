@@ -1,5 +1,5 @@
 -- What the emitters of expressions add, from what their steps add.
-use Rattle.std.proofs.Common.{◌≡◌, ℕ, ◌+◌, ◌<◌, ◌≤◌, min, true, false, List, [], ◌∷◌, ◌++◌, map, take, length, get_or, refl, sym, ap, ◌∙◌, subst, arith, append_assoc, length-append}
+use Rattle.std.proofs.Common.{◌≡◌, ℕ, Bool, ◌+◌, ◌<◌, ◌≤◌, min, true, false, List, [], ◌∷◌, ◌++◌, map, take, length, get_or, refl, sym, ap, ◌∙◌, subst, arith, append_assoc, length-append}
 use Rattle.std.proofs.lemmas.List.{append-nil, map_more, take_all, length-map}
 use Rattle.am_base.specs.declared.calls.MpiCall.{MpiCall}
 use Rattle.vm_code.specs.declared.instr.Instr.{Instr}
@@ -13,16 +13,17 @@ use Rattle.c_types.specs.declared.expression.Operand.TheVariants as operand
 use Rattle.c_types.specs.declared.expression.Step.{Step}
 use Rattle.c_types.specs.declared.expression.Step.TheVariants as step
 use Rattle.c_types.specs.declared.expression.Expr.{Expr}
+use Rattle.c_types.specs.declared.expression.Operand.TheOpen.{Step-F}
 use Rattle.c_types.specs.declared.expression.OffsetBy.{OffsetBy}
 use Rattle.c_types.specs.declared.expression.OffsetBy.TheVariants.{PointerPlusNumber, NumberPlusPointer, PointerMinusNumber}
 use Rattle.codegen.specs.declared.draft.Draft.{Draft}
-use Rattle.codegen.specs.Layout.{Part, nothing, one, ◌then◌, over, truths, in_order, converted, on_words, scaled, moving, offset_front, offset_back, offset_part, operand_code, step_code, expr_part}
+use Rattle.codegen.specs.Layout.{Part, nothing, one, ◌then◌, over, truths, jump_where, in_order, converted, on_words, scaled, moving, offset_front, offset_back, offset_part, step_part, operand_code, step_code, expr_part}
 use Rattle.codegen.specs.Sizes.{expr_size}
 use Rattle.codegen.specs.Making.{Adds, at_most_word}
 use Rattle.codegen.proofs.Measuring.{measured}
 use Rattle.codegen.proofs.Shaping.{Sized}
 use Rattle.codegen.proofs.Adding.{adds_then, adds_over, adds_over_last}
-use Rattle.codegen.proofs.Parts.{code_operand_object, code_operand_mpi, code_step_and, code_step_or, code_step_conditional, code_step_offset, code_step_update, code_step_advance}
+use Rattle.codegen.proofs.Parts.{code_operand_object, code_operand_mpi, code_step_conditional}
 use Rattle.codegen.proofs.Sizing.{code_expr, cut_more}
 
 -- ---- parts one behind the other
@@ -113,84 +114,68 @@ module _ (object : ℕ → ℕ) where
   right_added : (d e : Draft) (b b' : Expr) → b' ≡ b → Adds d e (expr_part object b') → Adds d e (expr_part object b)
   right_added d e b b' is x = subst (λ c. Adds d e (expr_part object c)) is x
 
-  -- an operand on the right, and a part behind it
-  pub right_adds : (d0 d1 d2 : Draft) (s same : Step) (b b' : Expr) (p : Part) → s ≡ same → step_code object same ≡ (expr_part object b then p) → b' ≡ b
-      → Adds d0 d1 (expr_part object b') → Adds d1 d2 p → Adds d0 d2 (step_code object s)
-  right_adds d0 d1 d2 s same b b' p is code b_is x y =
-      step_named d0 d2 s same _ is code (adds_then d0 d1 d2 _ p (right_added d0 d1 b b' b_is x) y)
+  -- an operand on the right, with a part behind it, before it, or both
+  pub behind_adds : (d0 d1 d2 : Draft) (b b' : Expr) (p : Part) → b' ≡ b → Adds d0 d1 (expr_part object b') → Adds d1 d2 p → Adds d0 d2 (expr_part object b then p)
+  behind_adds d0 d1 d2 b b' p b_is x y = adds_then d0 d1 d2 _ p (right_added d0 d1 b b' b_is x) y
 
-  pub two_adds : (d0 d1 d2 : Draft) (s same : Step) (p q : Part) → s ≡ same → step_code object same ≡ (p then q) → Adds d0 d1 p → Adds d1 d2 q → Adds d0 d2 (step_code object s)
-  two_adds d0 d1 d2 s same p q is code x y = step_named d0 d2 s same _ is code (adds_then d0 d1 d2 p q x y)
+  pub before_adds : (d0 d1 d2 : Draft) (b b' : Expr) (p : Part) → b' ≡ b → Adds d0 d1 p → Adds d1 d2 (expr_part object b') → Adds d0 d2 (p then expr_part object b)
+  before_adds d0 d1 d2 b b' p b_is x y = adds_then d0 d1 d2 p _ x (right_added d1 d2 b b' b_is y)
 
-  pub last_adds : (d0 d1 d2 : Draft) (s same : Step) (b b' : Expr) (p : Part) → s ≡ same → step_code object same ≡ (p then expr_part object b) → b' ≡ b
-      → Adds d0 d1 p → Adds d1 d2 (expr_part object b') → Adds d0 d2 (step_code object s)
-  last_adds d0 d1 d2 s same b b' p is code b_is x y =
-      step_named d0 d2 s same _ is code (adds_then d0 d1 d2 p _ x (right_added d1 d2 b b' b_is y))
-
-  -- one with a part before it and a part behind it
-  pub middle_adds : (d0 d1 d2 d3 : Draft) (s same : Step) (b b' : Expr) (p q : Part) → s ≡ same → step_code object same ≡ (p then expr_part object b then q) → b' ≡ b
-      → Adds d0 d1 p → Adds d1 d2 (expr_part object b') → Adds d2 d3 q → Adds d0 d3 (step_code object s)
-  middle_adds d0 d1 d2 d3 s same b b' p q is code b_is x y z =
-      step_named d0 d3 s same _ is code (adds_then d0 d1 d3 p _ x (adds_then d1 d2 d3 _ q (right_added d1 d2 b b' b_is y) z))
+  between_adds : (d0 d1 d2 d3 : Draft) (b b' : Expr) (p q : Part) → b' ≡ b → Adds d0 d1 p → Adds d1 d2 (expr_part object b') → Adds d2 d3 q
+      → Adds d0 d3 (p then expr_part object b then q)
+  between_adds d0 d1 d2 d3 b b' p q b_is x y z = adds_then d0 d1 d3 p _ x (behind_adds d1 d2 d3 b b' q b_is y z)
 
   offset_cut : (by : OffsetBy) (scale : ℕ) (b : Part) → offset_part by scale b ≡ (offset_front by scale then b then offset_back by scale)
   offset_cut PointerPlusNumber scale b = sym (nothing_then _)
   offset_cut NumberPlusPointer scale b = refl
   offset_cut PointerMinusNumber scale b = sym (nothing_then _)
 
-  pub code_offset : (by : OffsetBy) (scale : ℕ) (b : Expr) → step_code object (step.Offset by scale b) ≡ (offset_front by scale then expr_part object b then offset_back by scale)
-  code_offset by scale b = code_step_offset object by scale b ∙ offset_cut by scale (expr_part object b)
+  pub offset_adds : (d0 d1 d2 d3 : Draft) (by : OffsetBy) (scale : ℕ) (b b' : Expr) → b' ≡ b → Adds d0 d1 (offset_front by scale) → Adds d1 d2 (expr_part object b')
+      → Adds d2 d3 (offset_back by scale) → Adds d0 d3 (offset_part by scale (expr_part object b))
+  offset_adds d0 d1 d2 d3 by scale b b' b_is x y z =
+      subst (Adds d0 d3) (sym (offset_cut by scale (expr_part object b))) (between_adds d0 d1 d2 d3 b b' (offset_front by scale) (offset_back by scale) b_is x y z)
 
-  pub code_update : (o : Operator) (k at : Kind) (b : Expr)
-      → step_code object (step.Update o k at b) ≡ ((one instr.Dup then one (instr.Load k) then converted k at) then expr_part object b then one (instr.Binary o at) then converted at k then one (instr.Store k))
-  code_update o k at b =
-      code_step_update object o k at b
-      ∙ sym (then_assoc (one instr.Dup) (one (instr.Load k) then converted k at) _ ∙ ap (λ p. one instr.Dup then p) (then_assoc (one (instr.Load k)) (converted k at) _))
+  pub update_adds : (d0 d1 d2 d3 : Draft) (o : Operator) (k at : Kind) (b b' : Expr) → b' ≡ b → Adds d0 d1 (one instr.Dup then one (instr.Load k) then converted k at)
+      → Adds d1 d2 (expr_part object b') → Adds d2 d3 (one (instr.Binary o at) then converted at k then one (instr.Store k))
+      → Adds d0 d3 (step_part (Step-F.Update o k at (expr_part object b)))
+  update_adds d0 d1 d2 d3 o k at b b' b_is x y z =
+      subst (Adds d0 d3) (then_assoc (one instr.Dup) (one (instr.Load k) then converted k at) _ ∙ ap (λ p. one instr.Dup then p) (then_assoc (one (instr.Load k)) (converted k at) _))
+      (between_adds d0 d1 d2 d3 b b' (one instr.Dup then one (instr.Load k) then converted k at) (one (instr.Binary o at) then converted at k then one (instr.Store k)) b_is x y z)
 
-  pub code_advance : (direction : Direction) (scale : ℕ) (b : Expr)
-      → step_code object (step.Advance direction scale b) ≡ ((one instr.Dup then one (instr.Load kind.UnsignedLong)) then expr_part object b then scaled scale then on_words (moving direction) then one (instr.Store kind.UnsignedLong))
-  code_advance direction scale b = code_step_advance object direction scale b ∙ sym (then_assoc (one instr.Dup) (one (instr.Load kind.UnsignedLong)) _)
+  pub advance_adds : (d0 d1 d2 d3 : Draft) (direction : Direction) (scale : ℕ) (b b' : Expr) → b' ≡ b → Adds d0 d1 (one instr.Dup then one (instr.Load kind.UnsignedLong))
+      → Adds d1 d2 (expr_part object b') → Adds d2 d3 (scaled scale then on_words (moving direction) then one (instr.Store kind.UnsignedLong))
+      → Adds d0 d3 (step_part (Step-F.Advance direction scale (expr_part object b)))
+  advance_adds d0 d1 d2 d3 direction scale b b' b_is x y z =
+      subst (Adds d0 d3) (then_assoc (one instr.Dup) (one (instr.Load kind.UnsignedLong)) _)
+      (between_adds d0 d1 d2 d3 b b' (one instr.Dup then one (instr.Load kind.UnsignedLong)) (scaled scale then on_words (moving direction) then one (instr.Store kind.UnsignedLong)) b_is x y z)
 
   -- ---- jumps over operands
 
-  over_right : (d0 d1 d2 d3 : Draft) (jump : ℕ → Instr) (b b1 b2 : Expr) (x z to : ℕ) (c : Part) → b1 ≡ b → b2 ≡ b → x ≡ at_most_word (expr_size b1)
-      → z ≡ min (x + 4) 4294967295 → ((n : ℕ) → z ≡ at_most_word n → to ≡ at_most_word (length d0.instrs + n)) → length d2.instrs + 3 ≤ length d3.instrs
-      → Adds d0 d1 (one (jump to)) → Adds d1 d2 (expr_part object b2) → Adds d2 d3 c → Adds d0 d3 (over jump 3 (expr_part object b) then c)
-  over_right d0 d1 d2 d3 jump b b1 b2 x z to c b1_is b2_is x_is z_is to_is within j a t =
+  pub decided_adds : (d0 d1 d2 d3 : Draft) (decisive : Bool) (b b1 b2 : Expr) (x z to : ℕ) (i : Instr) → b1 ≡ b → b2 ≡ b → x ≡ at_most_word (expr_size b1)
+      → z ≡ min (x + 4) 4294967295 → ((n : ℕ) → z ≡ at_most_word n → to ≡ at_most_word (length d0.instrs + n)) → i ≡ jump_where decisive to
+      → Adds d0 d1 (one i) → Adds d1 d2 (expr_part object b2) → Adds d2 d3 (truths decisive) → Adds d0 d3 (over (jump_where decisive) 3 (expr_part object b) then truths decisive)
+  unfolding truths
+  decided_adds d0 d1 d2 d3 decisive b b1 b2 x z to i b1_is b2_is x_is z_is to_is i_is j a t =
+      let four = t.count in
       let x' : x ≡ at_most_word (expr_size b) = x_is ∙ ap (λ e. at_most_word (expr_size e)) b1_is in
-      adds_over d0 d1 d2 d3 jump 3 (expr_size b) to (expr_part object b) c (sized_expr object b)
-      (to_is (expr_size b + (1 + 3)) (cut_more x z (expr_size b) 4 x' z_is)) within j (right_added d1 d2 b b2 b2_is a) t
+      adds_over d0 d1 d2 d3 (jump_where decisive) 3 (expr_size b) to (expr_part object b) (truths decisive) (sized_expr object b)
+      (to_is (expr_size b + (1 + 3)) (cut_more x z (expr_size b) 4 x' z_is)) (omega (arith, four)) (subst (λ k. Adds d0 d1 (one k)) i_is j) (right_added d1 d2 b b2 b2_is a) t
 
-  pub and_adds : (d0 d1 d2 d3 : Draft) (s : Step) (b b1 b2 : Expr) (x z to : ℕ) → s ≡ step.And b → b1 ≡ b → b2 ≡ b → x ≡ at_most_word (expr_size b1)
-      → z ≡ min (x + 4) 4294967295 → ((n : ℕ) → z ≡ at_most_word n → to ≡ at_most_word (length d0.instrs + n))
-      → Adds d0 d1 (one (instr.JumpIfZero to)) → Adds d1 d2 (expr_part object b2) → Adds d2 d3 (truths false) → Adds d0 d3 (step_code object s)
-  unfolding truths
-  and_adds d0 d1 d2 d3 s b b1 b2 x z to is b1_is b2_is x_is z_is to_is j a t =
-      let four = t.count in
-      step_named d0 d3 s _ _ is (code_step_and object b)
-      (over_right d0 d1 d2 d3 instr.JumpIfZero b b1 b2 x z to (truths false) b1_is b2_is x_is z_is to_is (omega (arith, four)) j a t)
+  pub otherwise_adds : (d0 d1 d2 : Draft) (b b1 b2 : Expr) (x z to : ℕ) → b1 ≡ b → b2 ≡ b → x ≡ at_most_word (expr_size b1) → z ≡ min (x + 1) 4294967295
+      → ((n : ℕ) → z ≡ at_most_word n → to ≡ at_most_word (length d0.instrs + n)) → Adds d0 d1 (one (instr.Jump to)) → Adds d1 d2 (expr_part object b2)
+      → Adds d0 d2 (over instr.Jump 0 (expr_part object b))
+  otherwise_adds d0 d1 d2 b b1 b2 x z to b1_is b2_is x_is z_is to_is j a =
+      let x' : x ≡ at_most_word (expr_size b) = x_is ∙ ap (λ e. at_most_word (expr_size e)) b1_is in
+      adds_over_last d0 d1 d2 instr.Jump (expr_size b) to (expr_part object b) (sized_expr object b)
+      (to_is (expr_size b + 1) (cut_more x z (expr_size b) 1 x' z_is)) j (right_added d1 d2 b b2 b2_is a)
 
-  pub or_adds : (d0 d1 d2 d3 : Draft) (s : Step) (b b1 b2 : Expr) (x z to : ℕ) → s ≡ step.Or b → b1 ≡ b → b2 ≡ b → x ≡ at_most_word (expr_size b1)
-      → z ≡ min (x + 4) 4294967295 → ((n : ℕ) → z ≡ at_most_word n → to ≡ at_most_word (length d0.instrs + n))
-      → Adds d0 d1 (one (instr.JumpIfNot to)) → Adds d1 d2 (expr_part object b2) → Adds d2 d3 (truths true) → Adds d0 d3 (step_code object s)
-  unfolding truths
-  or_adds d0 d1 d2 d3 s b b1 b2 x z to is b1_is b2_is x_is z_is to_is j a t =
-      let four = t.count in
-      step_named d0 d3 s _ _ is (code_step_or object b)
-      (over_right d0 d1 d2 d3 instr.JumpIfNot b b1 b2 x z to (truths true) b1_is b2_is x_is z_is to_is (omega (arith, four)) j a t)
-
-  pub conditional_adds : (d0 d1 d2 d3 d4 : Draft) (s : Step) (b b1 b2 c c1 c2 : Expr) (x z to x' z' end : ℕ) → s ≡ step.Conditional b c → b1 ≡ b → b2 ≡ b → c1 ≡ c → c2 ≡ c
+  pub conditional_adds : (d0 d1 d2 d3 : Draft) (s : Step) (b b1 b2 c : Expr) (x z to : ℕ) → s ≡ step.Conditional b c → b1 ≡ b → b2 ≡ b
       → x ≡ at_most_word (expr_size b1) → z ≡ min (x + 2) 4294967295 → ((n : ℕ) → z ≡ at_most_word n → to ≡ at_most_word (length d0.instrs + n))
-      → x' ≡ at_most_word (expr_size c1) → z' ≡ min (x' + 1) 4294967295 → ((n : ℕ) → z' ≡ at_most_word n → end ≡ at_most_word (length d2.instrs + n))
-      → Adds d0 d1 (one (instr.JumpIfZero to)) → Adds d1 d2 (expr_part object b2) → Adds d2 d3 (one (instr.Jump end)) → Adds d3 d4 (expr_part object c2)
-      → Adds d0 d4 (step_code object s)
-  conditional_adds d0 d1 d2 d3 d4 s b b1 b2 c c1 c2 x z to x' z' end is b1_is b2_is c1_is c2_is x_is z_is to_is x'_is z'_is end_is j a k e =
+      → Adds d0 d1 (one (instr.JumpIfZero to)) → Adds d1 d2 (expr_part object b2) → Adds d2 d3 (over instr.Jump 0 (expr_part object c)) → Adds d0 d3 (step_code object s)
+  unfolding over
+  conditional_adds d0 d1 d2 d3 s b b1 b2 c x z to is b1_is b2_is x_is z_is to_is j a e =
       let n : x ≡ at_most_word (expr_size b) = x_is ∙ ap (λ y. at_most_word (expr_size y)) b1_is in
-      let m : x' ≡ at_most_word (expr_size c) = x'_is ∙ ap (λ y. at_most_word (expr_size y)) c1_is in
-      let first = k.count in
-      let second = e.count in
-      let last = adds_over_last d2 d3 d4 instr.Jump (expr_size c) end (expr_part object c) (sized_expr object c)
-      (end_is (expr_size c + 1) (cut_more x' z' (expr_size c) 1 m z'_is)) k (right_added d3 d4 c c2 c2_is e) in
-      step_named d0 d4 s _ _ is (code_step_conditional object b c)
-      (adds_over d0 d1 d2 d4 instr.JumpIfZero 1 (expr_size b) to (expr_part object b) (over instr.Jump 0 (expr_part object c)) (sized_expr object b)
-      (to_is (expr_size b + (1 + 1)) (cut_more x z (expr_size b) 2 n z_is)) (omega (arith, first, second)) j (right_added d1 d2 b b2 b2_is a) last)
+      let last = e.count in
+      step_named d0 d3 s _ _ is (code_step_conditional object b c)
+      (adds_over d0 d1 d2 d3 instr.JumpIfZero 1 (expr_size b) to (expr_part object b) (over instr.Jump 0 (expr_part object c)) (sized_expr object b)
+      (to_is (expr_size b + (1 + 1)) (cut_more x z (expr_size b) 2 n z_is)) (omega (arith, last)) j (right_added d1 d2 b b2 b2_is a) e)

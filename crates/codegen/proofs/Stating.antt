@@ -11,13 +11,13 @@ use Rattle.c_types.specs.declared.statement.Store.{Store}
 use Rattle.codegen.specs.declared.draft.Draft.{Draft}
 use Rattle.codegen.specs.Layout.{Part, one, ◌then◌, over, in_order}
 use Rattle.codegen.specs.Sizes.{expr_size}
-use Rattle.codegen.specs.Statements.{Within, Targets, Piece, ticked, full_part, put_part, zeros_part, stores_part, declared_part, all_declared_part, again_part, returned_part, in_order_part, stmt_piece, if_piece}
+use Rattle.codegen.specs.Statements.{Within, Targets, Piece, ticked, full_part, put_part, zeros_part, stores_part, declared_part, all_declared_part, again_part, in_order_part, stmt_piece, if_piece}
 use Rattle.codegen.specs.Making.{Adds, at_most_word, store_part}
 use Rattle.codegen.proofs.Shaping.{Sized, SizedPiece, sized_piece, sized_full, has_size}
 use Rattle.codegen.proofs.Adding.{adds_then, adds_same, adds_is, adds_over, adds_over_last, place_is}
 use Rattle.codegen.proofs.Emitting.{then_assoc, adds_all}
 use Rattle.codegen.proofs.Sizing.{cut_more}
-use Rattle.codegen.proofs.Pieces.{piece_if, piece_if_else, piece_block, piece_labelled, piece_return, piece_express}
+use Rattle.codegen.proofs.Pieces.{piece_if, piece_if_else, piece_block, piece_labelled}
 
 -- the same part at an equal value
 pub adds_at : {A : Type 0} (d e : Draft) (f : A → Part) (x y : A) → x ≡ y → Adds d e (f y) → Adds d e (f x)
@@ -106,11 +106,9 @@ module _ (w : Within) where
   pub part_at : (d e : Draft) (b b' : Stmt) (t : Targets) → b' ≡ b → Adds d e (part_of t b') → Adds d e (part_of t b)
   part_at d e b b' t same x = subst (λ s. Adds d e (part_of t s)) same x
 
-  pub express_adds : (d0 d1 d2 : Draft) (s : Stmt) (line : ℕ) (e : FullExpr) (t : Targets) → s ≡ stmt.Express line e → Adds d0 d1 (ticked w line then full_part w e)
-      → Adds d1 d2 (one instr.Pop) → Adds d0 d2 (part_of t s)
-  express_adds d0 d1 d2 s line e t is x y =
-      stmt_named d0 d2 s _ _ t is (piece_express w line e)
-      (subst (Adds d0 d2) (then_assoc (ticked w line) (full_part w e) (one instr.Pop)) (adds_then d0 d1 d2 _ _ x y))
+  pub express_adds : (d0 d1 d2 : Draft) (line : ℕ) (e : FullExpr) → Adds d0 d1 (ticked w line then full_part w e) → Adds d1 d2 (one instr.Pop)
+      → Adds d0 d2 (ticked w line then full_part w e then one instr.Pop)
+  express_adds d0 d1 d2 line e x y = subst (Adds d0 d2) (then_assoc (ticked w line) (full_part w e) (one instr.Pop)) (adds_then d0 d1 d2 _ _ x y)
 
   pub block_adds : (d e : Draft) (s : Stmt) (ss ss' : List Stmt) (t : Targets) → s ≡ stmt.Block ss → ss' ≡ ss → Adds d e (in_order_part (map (stmt_piece w) ss') t)
       → Adds d e (part_of t s)
@@ -119,11 +117,6 @@ module _ (w : Within) where
 
   pub labelled_adds : (d e : Draft) (s b b' : Stmt) (label : ℕ) (t : Targets) → s ≡ stmt.Labelled label b → b' ≡ b → Adds d e (part_of t b') → Adds d e (part_of t s)
   labelled_adds d e s b b' label t is same x = stmt_named d e s _ _ t is (piece_labelled w label b) (part_at d e b b' t same x)
-
-  pub return_adds : (d0 d1 d2 d3 : Draft) (s : Stmt) (line : ℕ) (e : Option FullExpr) (t : Targets) → s ≡ stmt.Return line e → Adds d0 d1 (ticked w line)
-      → Adds d1 d2 (returned_part w e) → Adds d2 d3 (one instr.Return) → Adds d0 d3 (part_of t s)
-  return_adds d0 d1 d2 d3 s line e t is x y z =
-      stmt_named d0 d3 s _ _ t is (piece_return w line e) (adds_then d0 d1 d3 _ _ x (adds_then d1 d2 d3 _ _ y z))
 
   -- ---- `if`
 

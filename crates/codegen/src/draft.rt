@@ -2,7 +2,7 @@
 
 ghost use Rattle.std.specs.Prelude.{◌≡◌, ℕ, ◌+◌, [], length, OnOk};
 ghost use Rattle.rank_range.specs.declared.kinds.Kind.TheVariants.{UnsignedLong, Long};
-ghost use Rattle.rank_range.specs.declared.operators.Binary.TheVariants.{Subtract, Divide};
+ghost use Rattle.rank_range.specs.declared.operators.Binary.TheVariants.{Add, Subtract, Divide};
 ghost use Rattle.vm_code.specs.declared.instr.Instr.TheVariants.{Dup, Push as InstrPush, Binary as InstrBinary, Load as InstrLoad, Store as InstrStore};
 ghost use Rattle.c_types.specs.declared.expression.Operand.TheOpen.Step-F.{Count};
 ghost use Rattle.c_model.specs.Run.{counted_kind};
@@ -104,6 +104,14 @@ impl Draft {
     {
         self.put(Instr::Binary { op, kind })?;
         self.put_negation()
+    }
+
+    /// The address of a member.
+    pub fn put_member(&mut self, offset: u64) -> Result<(), AllocError>
+        ensures { OnOk result (Adds self.old self.new (one (InstrPush offset) then on_words Add)) }
+    {
+        self.put(Instr::Push(offset))?;
+        self.put_words(Binary::Add)
     }
 
     /// What stands before the number of a pointer and a number.
@@ -263,7 +271,7 @@ fn truth(holds: bool) -> u64
 }
 
 /// The jump where a word is decisive.
-fn jump_where(decisive: bool, place: u32) -> Instr
+pub fn jump_where(decisive: bool, place: u32) -> Instr
     ensures { result ≡ jump_where decisive place }
 {
     if decisive {

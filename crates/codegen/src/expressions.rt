@@ -1,14 +1,17 @@
 //! The code of expressions.
 
 ghost use Rattle.std.specs.Prelude.{◌≡◌, OnOk, map};
-ghost use Rattle.codegen.specs.Layout.{in_order, operand_code, step_code, expr_part};
+ghost use Rattle.vm_code.specs.declared.instr.Instr.TheVariants.{Pop, Binary as InstrBinary, Jump as InstrJump};
+ghost use Rattle.c_types.specs.declared.expression.Operand.TheOpen.Step-F.{Difference, Update, Advance};
+ghost use Rattle.codegen.specs.Layout.{one, ◌then◌, over, negation, truths, jump_where, offset_part, step_part, in_order, operand_code, step_code, expr_part};
 ghost use Rattle.codegen.specs.Statements.{offset_in};
 ghost use Rattle.codegen.specs.Making.{Adds};
 
-use crate::draft::Draft;
+use crate::draft::{Draft, jump_where};
 use crate::sizes::expr_size;
-use c_types::{Expr, Operand, Step};
-use rank_range::{Binary, Segment};
+use c_types::{Direction, Expr, OffsetBy, Operand, Step};
+use rank_range::{Binary, Kind, Segment};
+use sqlite_items::Boxed;
 use std::alloc::AllocError;
 use vm_code::Instr;
 
@@ -94,6 +97,137 @@ fn emit_operand(draft: &mut Draft, segment: &Segment, operand: &Operand) -> Resu
     }
 }
 
+/// An operand on the right, and an instruction behind it.
+#[cycle(emit)]
+fn emit_behind(
+    draft: &mut Draft,
+    segment: &Segment,
+    right: &Boxed<Expr>,
+    instr: Instr,
+) -> Result<(), AllocError>
+    ensures { OnOk result (Adds draft.old draft.new (expr_part (offset_in segment.now) right.now then one instr)) }
+{
+    emit_expr(draft, segment, right.get())?;
+    draft.put(instr)
+}
+
+/// An operand on the right, and the negation of what an operator tells.
+#[cycle(emit)]
+fn emit_turned(
+    draft: &mut Draft,
+    segment: &Segment,
+    right: &Boxed<Expr>,
+    op: Binary,
+    kind: Kind,
+) -> Result<(), AllocError>
+    ensures { OnOk result (Adds draft.old draft.new (expr_part (offset_in segment.now) right.now then one (InstrBinary op kind) then negation)) }
+{
+    emit_expr(draft, segment, right.get())?;
+    draft.put_turned(op, kind)
+}
+
+/// A pointer and a number.
+#[cycle(emit)]
+fn emit_offset(
+    draft: &mut Draft,
+    segment: &Segment,
+    by: OffsetBy,
+    scale: u64,
+    right: &Boxed<Expr>,
+) -> Result<(), AllocError>
+    ensures { OnOk result (Adds draft.old draft.new (offset_part by scale (expr_part (offset_in segment.now) right.now))) }
+{
+    draft.begin_offset(by, scale)?;
+    emit_expr(draft, segment, right.get())?;
+    draft.end_offset(by, scale)
+}
+
+/// The difference of two addresses.
+#[cycle(emit)]
+fn emit_difference(
+    draft: &mut Draft,
+    segment: &Segment,
+    size: u64,
+    right: &Boxed<Expr>,
+) -> Result<(), AllocError>
+    ensures { OnOk result (Adds draft.old draft.new (step_part (Difference size (expr_part (offset_in segment.now) right.now)))) }
+{
+    emit_expr(draft, segment, right.get())?;
+    draft.put_difference(size)
+}
+
+/// The second operand of `&&` or `||`, by the value that is decisive.
+#[cycle(emit)]
+fn emit_decided(
+    draft: &mut Draft,
+    segment: &Segment,
+    decisive: bool,
+    right: &Boxed<Expr>,
+) -> Result<(), AllocError>
+    ensures { OnOk result (Adds draft.old draft.new (over (jump_where decisive) 3 (expr_part (offset_in segment.now) right.now) then truths decisive)) }
+{
+    let past = draft.ahead(expr_size(right.get()).saturating_add(4));
+    draft.put(jump_where(decisive, past))?;
+    emit_expr(draft, segment, right.get())?;
+    draft.put_truths(decisive)
+}
+
+/// The value where a test fails, and the jump over it.
+#[cycle(emit)]
+fn emit_otherwise(
+    draft: &mut Draft,
+    segment: &Segment,
+    otherwise: &Boxed<Expr>,
+) -> Result<(), AllocError>
+    ensures { OnOk result (Adds draft.old draft.new (over InstrJump 0 (expr_part (offset_in segment.now) otherwise.now))) }
+{
+    let end = draft.ahead(expr_size(otherwise.get()).saturating_add(1));
+    draft.put(Instr::Jump(end))?;
+    emit_expr(draft, segment, otherwise.get())
+}
+
+/// The value behind a comma.
+#[cycle(emit)]
+fn emit_comma(draft: &mut Draft, segment: &Segment, right: &Boxed<Expr>) -> Result<(), AllocError>
+    ensures { OnOk result (Adds draft.old draft.new (one Pop then expr_part (offset_in segment.now) right.now)) }
+{
+    draft.put(Instr::Pop)?;
+    emit_expr(draft, segment, right.get())
+}
+
+/// `a op= b` on a number.
+#[cycle(emit)]
+fn emit_update(
+    draft: &mut Draft,
+    segment: &Segment,
+    op: Binary,
+    kind: Kind,
+    at: Kind,
+    right: &Boxed<Expr>,
+) -> Result<(), AllocError>
+    ensures { OnOk result (Adds draft.old draft.new (step_part (Update op kind at (expr_part (offset_in segment.now) right.now)))) }
+{
+    draft.begin_update(kind, at)?;
+    emit_expr(draft, segment, right.get())?;
+    draft.end_update(op, kind, at)
+}
+
+/// `p += n` and `p -= n`.
+#[cycle(emit)]
+fn emit_advance(
+    draft: &mut Draft,
+    segment: &Segment,
+    direction: Direction,
+    scale: u64,
+    right: &Boxed<Expr>,
+) -> Result<(), AllocError>
+    ensures { OnOk result (Adds draft.old draft.new (step_part (Advance direction scale (expr_part (offset_in segment.now) right.now)))) }
+{
+    draft.begin_advance()?;
+    emit_expr(draft, segment, right.get())?;
+    draft.end_advance(direction, scale)
+}
+
 #[cycle(emit)]
 fn emit_step(draft: &mut Draft, segment: &Segment, step: &Step) -> Result<(), AllocError>
     ensures { OnOk result (Adds draft.old draft.new (step_code (offset_in segment.now) step.now)) }
@@ -106,89 +240,46 @@ fn emit_step(draft: &mut Draft, segment: &Segment, step: &Step) -> Result<(), Al
             kind: *kind,
         }),
         Step::Not => draft.put_negation(),
-        Step::Member { offset } => {
-            draft.put(Instr::Push(*offset))?;
-            draft.put_words(Binary::Add)
-        }
-        Step::Binary { op, kind, right } => {
-            emit_expr(draft, segment, right.get())?;
-            draft.put(Instr::Binary {
-                op: *op,
-                kind: *kind,
-            })
-        }
-        Step::Greater { kind, right } => {
-            emit_expr(draft, segment, right.get())?;
-            draft.put_turned(Binary::AtMost, *kind)
-        }
-        Step::AtLeast { kind, right } => {
-            emit_expr(draft, segment, right.get())?;
-            draft.put_turned(Binary::Less, *kind)
-        }
-        Step::Offset { by, scale, right } => {
-            draft.begin_offset(*by, *scale)?;
-            emit_expr(draft, segment, right.get())?;
-            draft.end_offset(*by, *scale)
-        }
-        Step::Difference { size, right } => {
-            emit_expr(draft, segment, right.get())?;
-            draft.put_difference(*size)
-        }
-        Step::And { right } => {
-            let past = draft.ahead(expr_size(right.get()).saturating_add(4));
-            draft.put(Instr::JumpIfZero(past))?;
-            emit_expr(draft, segment, right.get())?;
-            draft.put_truths(false)
-        }
-        Step::Or { right } => {
-            let past = draft.ahead(expr_size(right.get()).saturating_add(4));
-            draft.put(Instr::JumpIfNot(past))?;
-            emit_expr(draft, segment, right.get())?;
-            draft.put_truths(true)
-        }
-        Step::Conditional { then, otherwise } => {
-            let past = draft.ahead(expr_size(then.get()).saturating_add(2));
-            draft.put(Instr::JumpIfZero(past))?;
-            emit_expr(draft, segment, then.get())?;
-            let end = draft.ahead(expr_size(otherwise.get()).saturating_add(1));
-            draft.put(Instr::Jump(end))?;
-            emit_expr(draft, segment, otherwise.get())
-        }
-        Step::Comma { right } => {
-            draft.put(Instr::Pop)?;
-            emit_expr(draft, segment, right.get())
-        }
-        Step::Assign { kind, right } => {
-            emit_expr(draft, segment, right.get())?;
-            draft.put(Instr::Store(*kind))
-        }
-        Step::Copy { size, right } => {
-            emit_expr(draft, segment, right.get())?;
-            draft.put(Instr::Copy(*size))
-        }
-        Step::Update {
-            op,
-            kind,
-            at,
-            right,
-        } => {
-            draft.begin_update(*kind, *at)?;
-            emit_expr(draft, segment, right.get())?;
-            draft.end_update(*op, *kind, *at)
-        }
-        Step::Advance {
-            direction,
-            scale,
-            right,
-        } => {
-            draft.begin_advance()?;
-            emit_expr(draft, segment, right.get())?;
-            draft.end_advance(*direction, *scale)
-        }
+        Step::Member { offset } => draft.put_member(*offset),
         Step::Count {
             counted,
             direction,
             given,
         } => draft.put_count(*counted, *direction, *given),
+        Step::Binary { op, kind, right } => {
+            let instr = Instr::Binary {
+                op: *op,
+                kind: *kind,
+            };
+            emit_behind(draft, segment, right, instr)
+        }
+        Step::Assign { kind, right } => emit_behind(draft, segment, right, Instr::Store(*kind)),
+        Step::Copy { size, right } => emit_behind(draft, segment, right, Instr::Copy(*size)),
+        Step::Greater { kind, right } => {
+            emit_turned(draft, segment, right, Binary::AtMost, *kind)
+        }
+        Step::AtLeast { kind, right } => emit_turned(draft, segment, right, Binary::Less, *kind),
+        Step::Offset { by, scale, right } => emit_offset(draft, segment, *by, *scale, right),
+        Step::Difference { size, right } => emit_difference(draft, segment, *size, right),
+        Step::And { right } => emit_decided(draft, segment, false, right),
+        Step::Or { right } => emit_decided(draft, segment, true, right),
+        Step::Conditional { then, otherwise } => {
+            let past = draft.ahead(expr_size(then.get()).saturating_add(2));
+            draft.put(Instr::JumpIfZero(past))?;
+            emit_expr(draft, segment, then.get())?;
+            emit_otherwise(draft, segment, otherwise)
+        }
+        Step::Comma { right } => emit_comma(draft, segment, right),
+        Step::Update {
+            op,
+            kind,
+            at,
+            right,
+        } => emit_update(draft, segment, *op, *kind, *at, right),
+        Step::Advance {
+            direction,
+            scale,
+            right,
+        } => emit_advance(draft, segment, *direction, *scale, right),
     }
 }

@@ -1,7 +1,7 @@
 //! The code of statements.
 
 ghost use Rattle.std.specs.Prelude.{◌≡◌, OnOk, None, Some, map};
-ghost use Rattle.vm_code.specs.declared.instr.Instr.TheVariants.{Tick, JumpIfZero as InstrJumpIfZero, Jump as InstrJump};
+ghost use Rattle.vm_code.specs.declared.instr.Instr.TheVariants.{Tick, Pop, Return, JumpIfZero as InstrJumpIfZero, Jump as InstrJump};
 ghost use Rattle.codegen.specs.Layout.{one, ◌then◌, over};
 ghost use Rattle.codegen.specs.Statements.{ticked, full_part, dropped_part, put_part, zeros_part, stores_part, declared_part, all_declared_part, test_part, again_part, continue_place, returned_part, in_order_part, stmt_piece};
 ghost use Rattle.codegen.specs.Making.{Adds, within, targets_of, store_part, turns_part, for_turns_part};
@@ -177,6 +177,28 @@ fn emit_again(
     }
 }
 
+/// A statement that evaluates an expression.
+fn emit_express(
+    draft: &mut Draft,
+    segment: &Segment,
+    unit: u8,
+    line: u32,
+    value: &FullExpr,
+) -> Result<(), AllocError>
+    ensures { OnOk result (Adds draft.old draft.new (ticked (within unit segment.now) line then full_part (within unit segment.now) value.now then one Pop)) }
+{
+    emit_ticked(draft, segment, unit, line, value)?;
+    draft.put(Instr::Pop)
+}
+
+/// `break` and `continue`.
+fn emit_jump(draft: &mut Draft, unit: u8, line: u32, to: u32) -> Result<(), AllocError>
+    ensures { OnOk result (Adds draft.old draft.new (one (Tick unit line) then one (InstrJump to))) }
+{
+    emit_tick(draft, unit, line)?;
+    draft.put(Instr::Jump(to))
+}
+
 /// The value that a function returns.
 fn emit_returned(
     draft: &mut Draft,
@@ -190,6 +212,20 @@ fn emit_returned(
         None => draft.put(Instr::Push(0)),
         Some(full) => emit_expr(draft, segment, &full.expr),
     }
+}
+
+fn emit_return(
+    draft: &mut Draft,
+    segment: &Segment,
+    unit: u8,
+    line: u32,
+    value: &Option<FullExpr>,
+) -> Result<(), AllocError>
+    ensures { OnOk result (Adds draft.old draft.new (ticked (within unit segment.now) line then returned_part (within unit segment.now) value.now then one Return)) }
+{
+    emit_tick(draft, unit, line)?;
+    emit_returned(draft, segment, unit, value)?;
+    draft.put(Instr::Return)
 }
 
 /// Where `continue` leads in a `for`.
@@ -318,10 +354,7 @@ fn emit_stmt(
 {
     match stmt {
         Stmt::Empty { line } => emit_tick(draft, unit, *line),
-        Stmt::Express { line, value } => {
-            emit_ticked(draft, segment, unit, *line, value)?;
-            draft.put(Instr::Pop)
-        }
+        Stmt::Express { line, value } => emit_express(draft, segment, unit, *line, value),
         Stmt::Declare(declared) => emit_declared(draft, segment, unit, declared),
         Stmt::Block(stmts) => emit_stmts(draft, segment, unit, places, stmts.as_slice()),
         Stmt::If {
@@ -366,18 +399,8 @@ fn emit_stmt(
         }
         Stmt::Switch { .. } => Ok(()),
         Stmt::Labelled { body, .. } => emit_stmt(draft, segment, unit, places, body.get()),
-        Stmt::Break { line } => {
-            emit_tick(draft, unit, *line)?;
-            draft.put(Instr::Jump(places.to_break))
-        }
-        Stmt::Continue { line } => {
-            emit_tick(draft, unit, *line)?;
-            draft.put(Instr::Jump(places.to_continue))
-        }
-        Stmt::Return { line, value } => {
-            emit_tick(draft, unit, *line)?;
-            emit_returned(draft, segment, unit, value)?;
-            draft.put(Instr::Return)
-        }
+        Stmt::Break { line } => emit_jump(draft, unit, *line, places.to_break),
+        Stmt::Continue { line } => emit_jump(draft, unit, *line, places.to_continue),
+        Stmt::Return { line, value } => emit_return(draft, segment, unit, *line, value),
     }
 }

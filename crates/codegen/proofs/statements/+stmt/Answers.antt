@@ -1,10 +1,10 @@
 use Rattle.std.proofs.lemmas.Result.{on_ok_weaker}
 use Rattle.vm_code.specs.declared.instr.Instr.TheVariants as instr
 use Rattle.codegen.specs.Making.{within, targets_of}
-use Rattle.codegen.proofs.Adding.{adds_none, adds_then}
+use Rattle.codegen.proofs.Adding.{adds_none}
 use Rattle.codegen.proofs.Emitting.{adds_next}
-use Rattle.codegen.proofs.Pieces.{piece_empty, piece_declare, piece_switch, piece_break, piece_continue}
-use Rattle.codegen.proofs.Stating.{part_of, stmts_add, stmt_named, express_adds, block_adds, labelled_adds, return_adds, over_last, if_adds, if_else_adds}
+use Rattle.codegen.proofs.Pieces.{piece_empty, piece_express, piece_declare, piece_switch, piece_break, piece_continue, piece_return}
+use Rattle.codegen.proofs.Stating.{part_of, stmts_add, stmt_named, block_adds, labelled_adds, over_last, if_adds, if_else_adds}
 use Rattle.codegen.proofs.Turning.{turns_add, for_turns_add, while_adds, do_adds, for_adds}
 use Rattle.codegen.proofs.statements.+stmt.Goals as goal
 
@@ -40,9 +40,9 @@ pub emit_stmt-returns-in-Empty : goal.emit_stmt-returns-in-Empty
 emit_stmt-returns-in-Empty t c =
     on_ok_weaker c.emit_tick.result (λ h. stmt_named (within c.args.unit c.args.segment.now) _ _ _ _ _ (targets_of c.args.places) c.in-Empty.is (piece_empty (within c.args.unit c.args.segment.now) _) h) c.emit_tick.ensures
 
-pub emit_stmt-returns-in_ok-emit_ticked-in-Express : goal.emit_stmt-returns-in_ok-emit_ticked-in-Express
-emit_stmt-returns-in_ok-emit_ticked-in-Express t c =
-    on_ok_weaker c.put.result (λ h. express_adds (within c.args.unit c.args.segment.now) _ _ _ _ _ _ (targets_of c.args.places) c.in-Express.is c.in_ok-emit_ticked-in-Express.ensures h) c.put.ensures
+pub emit_stmt-returns-in-Express : goal.emit_stmt-returns-in-Express
+emit_stmt-returns-in-Express t c =
+    on_ok_weaker c.emit_express.result (λ h. stmt_named (within c.args.unit c.args.segment.now) _ _ _ _ _ (targets_of c.args.places) c.in-Express.is (piece_express (within c.args.unit c.args.segment.now) _ _) h) c.emit_express.ensures
 
 pub emit_stmt-returns-in-Declare : goal.emit_stmt-returns-in-Declare
 emit_stmt-returns-in-Declare t c =
@@ -81,14 +81,14 @@ pub emit_stmt-returns-in-Labelled : goal.emit_stmt-returns-in-Labelled
 emit_stmt-returns-in-Labelled t c =
     on_ok_weaker c.emit_stmt-in-Labelled.result (λ h. labelled_adds (within c.args.unit c.args.segment.now) _ _ _ _ _ _ (targets_of c.args.places) c.in-Labelled.is c.get-in-Labelled.ensures h) c.emit_stmt-in-Labelled.ensures
 
-pub emit_stmt-returns-in_ok-emit_tick-in-Break : goal.emit_stmt-returns-in_ok-emit_tick-in-Break
-emit_stmt-returns-in_ok-emit_tick-in-Break t c =
-    on_ok_weaker c.put-in-Break.result (λ h. stmt_named (within c.args.unit c.args.segment.now) _ _ _ _ _ (targets_of c.args.places) c.in-Break.is (piece_break (within c.args.unit c.args.segment.now) _) (adds_then _ _ _ _ _ c.in_ok-emit_tick-in-Break.ensures h)) c.put-in-Break.ensures
+pub emit_stmt-returns-in-Break : goal.emit_stmt-returns-in-Break
+emit_stmt-returns-in-Break t c =
+    on_ok_weaker c.emit_jump.result (λ h. stmt_named (within c.args.unit c.args.segment.now) _ _ _ _ _ (targets_of c.args.places) c.in-Break.is (piece_break (within c.args.unit c.args.segment.now) _) h) c.emit_jump.ensures
 
-pub emit_stmt-returns-in_ok-emit_tick-in-Continue : goal.emit_stmt-returns-in_ok-emit_tick-in-Continue
-emit_stmt-returns-in_ok-emit_tick-in-Continue t c =
-    on_ok_weaker c.put-in-Continue.result (λ h. stmt_named (within c.args.unit c.args.segment.now) _ _ _ _ _ (targets_of c.args.places) c.in-Continue.is (piece_continue (within c.args.unit c.args.segment.now) _) (adds_then _ _ _ _ _ c.in_ok-emit_tick-in-Continue.ensures h)) c.put-in-Continue.ensures
+pub emit_stmt-returns-in-Continue : goal.emit_stmt-returns-in-Continue
+emit_stmt-returns-in-Continue t c =
+    on_ok_weaker c.emit_jump-in-Continue.result (λ h. stmt_named (within c.args.unit c.args.segment.now) _ _ _ _ _ (targets_of c.args.places) c.in-Continue.is (piece_continue (within c.args.unit c.args.segment.now) _) h) c.emit_jump-in-Continue.ensures
 
-pub emit_stmt-returns-in_ok-emit_returned-in-Return : goal.emit_stmt-returns-in_ok-emit_returned-in-Return
-emit_stmt-returns-in_ok-emit_returned-in-Return t c =
-    on_ok_weaker c.put-in-Return.result (λ h. return_adds (within c.args.unit c.args.segment.now) _ _ _ _ _ _ _ (targets_of c.args.places) c.in-Return.is c.in_ok-emit_tick-in-Return.ensures c.in_ok-emit_returned-in-Return.ensures h) c.put-in-Return.ensures
+pub emit_stmt-returns-in-Return : goal.emit_stmt-returns-in-Return
+emit_stmt-returns-in-Return t c =
+    on_ok_weaker c.emit_return.result (λ h. stmt_named (within c.args.unit c.args.segment.now) _ _ _ _ _ (targets_of c.args.places) c.in-Return.is (piece_return (within c.args.unit c.args.segment.now) _ _) h) c.emit_return.ensures
