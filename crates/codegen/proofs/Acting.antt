@@ -1,12 +1,10 @@
 -- The code of a statement does what the statement means.
-use Rattle.std.proofs.Common.{◌≡◌, ℕ, zero, suc, ◌+◌, ◌<◌, ◌≤◌, Bool, true, false, List, [], ◌∷◌, ◌++◌, map, length, refl, sym, ap, ◌∙◌, subst, arith, true≢false}
+use Rattle.std.proofs.Common.{◌≡◌, ℕ, zero, suc, ◌+◌, ◌<◌, ◌≤◌, Bool, true, List, [], ◌∷◌, ◌++◌, map, length, sym, ap, ◌∙◌, subst, arith, true≢false}
 use Rattle.std.specs.Prelude.{◌&&◌, Option, None, Some, slice_get}
 use Rattle.std.specs.List.{flat_map}
-use Rattle.rank_range.specs.Areas.{Memory}
 use Rattle.vm_code.specs.declared.code.Code.{Code}
-use Rattle.vm_code.specs.declared.instr.Instr.{Instr}
 use Rattle.vm_code.specs.declared.instr.Instr.TheVariants as instr
-use Rattle.vm_code.specs.Memory.{address_of, zeroed}
+use Rattle.vm_code.specs.Memory.{zeroed}
 use Rattle.vm_code.specs.Machine.{operand_limit}
 use Rattle.c_types.specs.declared.expression.FullExpr.{FullExpr}
 use Rattle.c_types.specs.declared.statement.Stmt.{Stmt, map-Stmt}
@@ -18,20 +16,20 @@ use Rattle.c_types.specs.declared.statement.Span.{Span}
 use Rattle.c_types.specs.declared.statement.Store.{Store}
 use Rattle.c_types.specs.declared.statement.Stored.{Stored}
 use Rattle.c_types.specs.declared.statement.Stored.TheVariants.{Number, Structure}
-use Rattle.c_types.specs.Need.{Pending, pending, pending_if, in_store, in_declared, joined, joined_if, pending_step, pending_of, need_of}
-use Rattle.c_model.specs.Outcome.{Rest, Here, tick, choose, with_memory, writing}
-use Rattle.c_model.specs.Run.{Calling, store}
+use Rattle.c_types.specs.Need.{Pending, pending, pending_if, in_store, in_declared, joined, pending_step, pending_of, need_of}
+use Rattle.c_model.specs.Outcome.{Rest, tick, with_memory, writing}
+use Rattle.c_model.specs.Run.{Calling}
 use Rattle.c_model.specs.Statements as run
 use Rattle.c_model.specs.Statements.{Exits, Frame, Meaning, Acts, here_at, evaluated, evaluated_if, tested, turns, loop, do_turns, do_loop, made_zero, put, stored_in_order, declared, all_declared, whole_if, returned, acts_step, acts, statements}
-use Rattle.codegen.specs.Layout.{Part, nothing, one, ◌then◌}
-use Rattle.codegen.specs.Sizes.{expr_size, dropped_size, test_size, again_size, zeros_size, all_declared_size, declared_size, return_size}
-use Rattle.codegen.specs.Statements.{Within, Targets, Piece, ticked, full_part, dropped_part, test_part, zeros_part, put_part, stores_part, declared_part, all_declared_part, again_part, continue_place, returned_part, in_order_part, sizes_of, stmt_step, stmt_piece}
-use Rattle.codegen.specs.Covered.{all_true, expr_covered, covered_if, stores_covered, all_declared_covered, begins_once, true_if, stmt_covered_step, stmt_covered}
+use Rattle.codegen.specs.Layout.{Part, one, ◌then◌}
+use Rattle.codegen.specs.Sizes.{expr_size, dropped_size, test_size, again_size, all_declared_size}
+use Rattle.codegen.specs.Statements.{Within, Targets, Piece, ticked, full_part, dropped_part, test_part, zeros_part, put_part, stores_part, declared_part, all_declared_part, again_part, continue_place, in_order_part, stmt_step, stmt_piece}
+use Rattle.codegen.specs.Covered.{all_true, expr_covered, covered_if, stores_covered, all_declared_covered, begins_once, stmt_covered_step, stmt_covered}
 use Rattle.codegen.proofs.Running.{Standing, Does, Told, fewer, from_place, does_push, does_pop, does_local, does_store, does_copy, does_zero, does_jump, does_if_zero, does_tick}
-use Rattle.codegen.proofs.Spanning.{Spans, Stands, AreCalm, spans_none, spans_one, spans_then, spans_first, lies, told_behind, told_next, line_behind}
+use Rattle.codegen.proofs.Spanning.{Spans, Stands, spans_none, spans_one, spans_then, spans_first, lies, told_behind, told_next, line_behind}
 use Rattle.codegen.proofs.Valuing.{here_in, around_with, has_value}
 use Rattle.codegen.proofs.Measuring.{and_left, and_right, calm_code}
-use Rattle.codegen.proofs.Shaping.{Sized, SizedPiece, spans_split, spans_end, sized_piece, sized_full, sized_dropped, sized_test, sized_zeros, sized_all_declared, sized_again, sized_returned, piece_roll, has_size}
+use Rattle.codegen.proofs.Shaping.{SizedPiece, spans_split, spans_end, sized_piece, sized_full, sized_dropped, sized_test, sized_all_declared, sized_again, piece_roll, has_size}
 
 -- no more values are pending in any of them than may be
 abbrev pub AllFit : List Pending → Type 0

@@ -1,5 +1,5 @@
 -- Each jump of a program's code that doesn't lead forward leads to a tick point.
-use Rattle.std.proofs.Common.{◌≡◌, ◌⊎◌, inl, inr, ℕ, zero, suc, ◌+◌, ◌<◌, ◌≤◌, Bool, true, List, [], ◌∷◌, ◌++◌, map, length, refl, sym, ap, ◌∙◌, subst, arith}
+use Rattle.std.proofs.Common.{◌≡◌, ◌⊎◌, inl, inr, ℕ, zero, suc, ◌+◌, ◌<◌, ◌≤◌, Bool, true, List, [], ◌∷◌, map, length, refl, sym, ap, subst, arith}
 use Rattle.std.specs.Prelude.{Option, None, Some, slice_get}
 use Rattle.rank_range.specs.declared.run.Segment.{Segment}
 use Rattle.vm_code.specs.declared.instr.Instr.{Instr}
@@ -21,12 +21,12 @@ use Rattle.c_types.specs.declared.program.Body.{Body}
 use Rattle.c_types.specs.declared.program.Main.{Main}
 use Rattle.c_model.specs.Statements.{parameter_count}
 use Rattle.codegen.specs.Layout.{Part, nothing, one, ◌then◌}
-use Rattle.codegen.specs.Sizes.{expr_size, dropped_size, test_size, again_size, zeros_size, stores_size, declared_size, all_declared_size, return_size}
-use Rattle.codegen.specs.Statements.{Within, Targets, Piece, ticked, full_part, dropped_part, test_part, zeros_part, put_part, stores_part, declared_part, all_declared_part, again_part, continue_place, returned_part, in_order_part, sizes_of, stmt_step, stmt_piece, pieces_of, end_targets, body_part, body_size, function_part, function_size, functions_part, offset_in, program_part}
-use Rattle.codegen.proofs.Spanning.{HasAt, Saying, Spans, In, spans_all, spans_then, spans_first, spans_one}
+use Rattle.codegen.specs.Sizes.{expr_size, dropped_size, test_size, again_size, zeros_size, declared_size, all_declared_size}
+use Rattle.codegen.specs.Statements.{Within, Targets, Piece, ticked, full_part, dropped_part, test_part, zeros_part, put_part, stores_part, declared_part, all_declared_part, again_part, continue_place, in_order_part, sizes_of, stmt_step, stmt_piece, pieces_of, end_targets, body_part, function_part, function_size, functions_part, offset_in, program_part}
+use Rattle.codegen.proofs.Spanning.{HasAt, Saying, Spans, In, spans_all, spans_first}
 use Rattle.codegen.proofs.Measuring.{IsForward, Fair, measured, has_both}
-use Rattle.codegen.proofs.Shaping.{Sized, SizedPiece, spans_split, sized_piece, sized_one, sized_ticked, sized_full, sized_dropped, sized_test, sized_zeros, sized_stores, sized_declared, sized_all_declared, sized_again, sized_returned, sized_pieces, piece_roll, has_size}
-use Rattle.codegen.proofs.Meaning.{sized_body, sized_function}
+use Rattle.codegen.proofs.Shaping.{Sized, spans_split, sized_piece, sized_one, sized_full, sized_dropped, sized_test, sized_zeros, sized_declared, sized_all_declared, sized_again, sized_pieces, piece_roll, has_size}
+use Rattle.codegen.proofs.Meaning.{sized_function}
 
 module _ (instrs : List Instr) where
   -- a jump that doesn't lead forward leads to a tick point

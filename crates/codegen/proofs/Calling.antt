@@ -1,6 +1,6 @@
 -- The machine runs backward over calls: of the library, of MPI and of functions, and over a return.
-use Rattle.std.proofs.Common.{◌≡◌, ◌⊎◌, inl, inr, ℕ, zero, suc, ◌+◌, ◌≤◌, ◌<◌, Bool, true, false, not, List, [], ◌∷◌, length, refl, sym, ap, ◌∙◌, subst, arith}
-use Rattle.std.specs.Prelude.{slice_get, nat_le, nat_lt, if◌then◌else◌, Option, Some, None}
+use Rattle.std.proofs.Common.{◌≡◌, ◌⊎◌, inl, inr, ℕ, zero, suc, ◌+◌, ◌≤◌, ◌<◌, Bool, true, false, not, List, [], ◌∷◌, length, sym, ap, ◌∙◌, subst, arith}
+use Rattle.std.specs.Prelude.{slice_get, nat_le, nat_lt, if◌then◌else◌, Some}
 use Rattle.std.proofs.lemmas.Bool.{le-leb, lt-leb}
 use Rattle.std.proofs.lemmas.Bool.Decides.{leb_tells}
 use Rattle.am_base.specs.declared.traps.TrapCause.TheVariants.{TextLimit, DataStack, CallDepth}
@@ -14,7 +14,6 @@ use Rattle.mpi_types.specs.declared.call.Answer.{Answer}
 use Rattle.mpi_types.specs.declared.call.Answer.TheVariants.{Half, Value, Trap, End}
 use Rattle.vm_code.specs.declared.code.Code.{Code}
 use Rattle.vm_code.specs.declared.code.Function.{Function}
-use Rattle.vm_code.specs.declared.instr.Instr.{Instr}
 use Rattle.vm_code.specs.declared.instr.Instr.TheVariants as instr
 use Rattle.vm_code.specs.Memory.{stack_top, with_frame, with_arguments, written_all}
 use Rattle.vm_code.specs.Stops.{Paused, Ended, Trapped, Done, asked, with_ticks, fits_text, printed}
@@ -24,7 +23,7 @@ use Rattle.vm_code.specs.Machine.{Config, Frame, Went, Stopped, Stuck, Stops, op
 use Rattle.c_model.specs.Outcome.{Rest, Here, tick, traps, with_memory, set_memory, stops}
 use Rattle.c_model.specs.Calls.{library_done, library_call, mpi_tick, mpi_call}
 use Rattle.c_model.specs.Statements.{left_frame}
-use Rattle.codegen.proofs.Running.{Standing, at, Does, Told, onto, many, goes, went, stopped, at_trap, stepped}
+use Rattle.codegen.proofs.Running.{Standing, at, Does, Told, onto, many, goes, went, stopped, stepped}
 
 -- what ends the rank with a word as an int
 abbrev pub ended : ℕ → Rest

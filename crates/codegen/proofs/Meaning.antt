@@ -1,8 +1,8 @@
 -- Code that is laid out as a program's means the program.
-use Rattle.std.proofs.Common.{◌≡◌, ◌⊎◌, inl, inr, ℕ, zero, suc, ◌+◌, ◌<◌, ◌≤◌, Bool, true, false, List, [], ◌∷◌, ◌++◌, map, length, take, reverse, refl, sym, ap, ◌∙◌, subst, arith, append_assoc}
+use Rattle.std.proofs.Common.{◌≡◌, ◌⊎◌, inl, inr, ℕ, zero, suc, ◌+◌, ◌<◌, ◌≤◌, true, false, List, [], ◌∷◌, map, length, take, reverse, refl, sym, ap, ◌∙◌, subst, arith}
 use Rattle.std.specs.Prelude.{Option, None, Some, slice_get, nat_le}
 use Rattle.std.specs.List.{flat_map, Contains}
-use Rattle.std.proofs.lemmas.List.{append-nil, length-take}
+use Rattle.std.proofs.lemmas.List.{append-nil}
 use Rattle.std.proofs.lemmas.Bool.Decides.{leb_tells}
 use Rattle.rank_range.specs.declared.run.Segment.{Segment}
 use Rattle.rank_range.specs.Layout.{stack_start, globals_start}
@@ -12,26 +12,25 @@ use Rattle.vm_code.specs.declared.code.Function.{Function as CodeFunction}
 use Rattle.vm_code.specs.declared.instr.Instr.TheVariants as instr
 use Rattle.vm_code.specs.Lines.{place_of}
 use Rattle.vm_code.specs.Memory.{opened, address_of, stack_top}
-use Rattle.vm_code.specs.Stops.{Done, nothing_done}
-use Rattle.vm_code.specs.Machine.{Frame as Caller, Stops, operand_limit, call_limit}
+use Rattle.vm_code.specs.Stops.{nothing_done}
+use Rattle.vm_code.specs.Machine.{Frame as Caller, Stops, operand_limit}
 use Rattle.c_types.specs.declared.program.Program.{Program}
 use Rattle.c_types.specs.declared.program.Function.{Function}
 use Rattle.c_types.specs.declared.program.Body.{Body}
 use Rattle.c_types.specs.declared.program.Main.{Main}
-use Rattle.c_types.specs.declared.program.TokenAt.{TokenAt}
-use Rattle.c_types.specs.Need.{Pending, pending_of, IsPastLimit, IsSimple}
-use Rattle.c_model.specs.Outcome.{Rest, Here, tick}
+use Rattle.c_types.specs.Need.{Pending, pending_of, IsSimple}
+use Rattle.c_model.specs.Outcome.{Here, tick}
 use Rattle.c_model.specs.Run.{Calling}
-use Rattle.c_model.specs.Statements.{called, entered, place_in, body_of, body_or_none, parameters_of, parameter_count, main_words, statements, exits_of, left_frame, run_of, main_run}
+use Rattle.c_model.specs.Statements.{called, entered, place_in, body_of, body_or_none, parameter_count, main_words, statements, exits_of, left_frame, run_of, main_run}
 use Rattle.c_model.specs.Means.{Means, opening}
-use Rattle.codegen.specs.Layout.{Part, nothing, one, ◌then◌}
-use Rattle.codegen.specs.Statements.{Targets, in_order_part, sizes_of, pieces_of, end_targets, body_part, body_size, function_part, function_size, functions_part, entry_at, entries_from, offset_in, program_part, IsCodeOf}
+use Rattle.codegen.specs.Layout.{nothing, one, ◌then◌}
+use Rattle.codegen.specs.Statements.{in_order_part, sizes_of, pieces_of, end_targets, body_part, body_size, function_part, function_size, functions_part, entry_at, entries_from, offset_in, program_part, IsCodeOf}
 use Rattle.codegen.specs.Covered.{all_true, stmt_covered, IsCovered}
-use Rattle.codegen.proofs.Running.{Standing, Does, Told, at, onto, onto_is, fewer, from_place, does_push}
-use Rattle.codegen.proofs.Calling.{ended, inside, enters, stops_call, does_return}
-use Rattle.codegen.proofs.Spanning.{Spans, Stands, spans_all, spans_one, spans_then, spans_first}
+use Rattle.codegen.proofs.Running.{Standing, Does, Told, at, onto, onto_is, does_push}
+use Rattle.codegen.proofs.Calling.{ended, inside, stops_call, does_return}
+use Rattle.codegen.proofs.Spanning.{Spans, Stands, spans_all, spans_one, spans_first}
 use Rattle.codegen.proofs.Shaping.{Sized, spans_split, sized_none, sized_one, sized_then, sized_pieces}
-use Rattle.codegen.proofs.Acting.{AllFit, Leads, does_statements, frame_in}
+use Rattle.codegen.proofs.Acting.{AllFit, does_statements, frame_in}
 
 -- where all of a simple program fit
 all_fit : (ps : List Pending) → ((p : Pending) → Contains ps p → p.need ≤ operand_limit) → AllFit ps

@@ -1,5 +1,5 @@
 -- How many instructions the code of an expression has, that its jumps lead forward, and that it is calm where it is covered.
-use Rattle.std.proofs.Common.{◌≡◌, ℕ, zero, suc, ◌+◌, ◌<◌, ◌≤◌, Bool, true, false, List, [], ◌∷◌, ◌++◌, map, length, refl, sym, ap, ◌∙◌, subst, arith, length-append, true≢false}
+use Rattle.std.proofs.Common.{◌≡◌, ℕ, ◌+◌, ◌<◌, Bool, true, false, List, [], ◌∷◌, ◌++◌, map, length, refl, sym, ap, ◌∙◌, subst, arith, length-append, true≢false}
 use Rattle.std.specs.Prelude.{◌&&◌}
 use Rattle.vm_code.specs.declared.instr.Instr.{Instr}
 use Rattle.vm_code.specs.declared.instr.Instr.TheVariants as instr
@@ -7,8 +7,8 @@ use Rattle.rank_range.specs.declared.kinds.Kind.{Kind}
 use Rattle.rank_range.specs.declared.kinds.Kind.TheVariants as kind
 use Rattle.rank_range.specs.declared.operators.Binary.{Binary as Operator}
 use Rattle.rank_range.specs.declared.operators.Binary.TheVariants as op
-use Rattle.c_types.specs.declared.expression.Operand.{Operand, fold-Operand, map-Operand}
-use Rattle.c_types.specs.declared.expression.Step.{Step, fold-Step, map-Step}
+use Rattle.c_types.specs.declared.expression.Operand.{Operand, map-Operand}
+use Rattle.c_types.specs.declared.expression.Step.{Step, map-Step}
 use Rattle.c_types.specs.declared.expression.Expr.{Expr, map-Expr}
 use Rattle.c_types.specs.declared.expression.Operand.TheOpen.{Operand-F, Step-F, Expr-F}
 use Rattle.c_types.specs.declared.expression.Operand.TheViews.{roll-Operand, roll-Step, roll-Expr}
@@ -20,9 +20,9 @@ use Rattle.c_types.specs.declared.expression.Counted.{Counted}
 use Rattle.c_types.specs.declared.expression.Given.{Given}
 use Rattle.c_types.specs.declared.expression.Given.TheVariants.{New, Old}
 use Rattle.c_model.specs.Run.{counted_kind}
-use Rattle.codegen.specs.Layout.{Part, nothing, one, ◌then◌, over, negation, truths, jump_where, in_order, operand_part, converted, on_words, scaled, offset_part, moving, against, amount, given_part, step_part, expr_step, expr_part, operand_code, step_code}
+use Rattle.codegen.specs.Layout.{Part, nothing, one, ◌then◌, over, negation, truths, in_order, operand_part, converted, on_words, scaled, offset_part, moving, against, amount, step_part, expr_part, operand_code, step_code}
 use Rattle.codegen.specs.Sizes.{total, operand_size, step_size, expr_size_step, expr_size, operand_sized, step_sized}
-use Rattle.codegen.specs.Covered.{all_true, operand_covered, step_covered, expr_covered_step, expr_covered}
+use Rattle.codegen.specs.Covered.{all_true, operand_covered, step_covered, expr_covered_step, expr_covered, operand_is_covered, step_is_covered}
 use Rattle.codegen.proofs.Spanning.{HasAt, IsCalm, AreCalm, Saying}
 use Rattle.codegen.proofs.Valuing.{operand_code_roll, step_code_roll, expr_code_roll}
 
@@ -154,11 +154,6 @@ measured_count c direction Old =
     (measured_one (instr.Extend (counted_kind c)) tt (λ place. tt)))))))))
 
 -- sizes and coverings of operands and steps
-operand_is_covered : Operand → Bool
-operand_is_covered = fold-Operand Bool Bool Bool operand_covered step_covered expr_covered_step
-
-step_is_covered : Step → Bool
-step_is_covered = fold-Step Bool Bool Bool operand_covered step_covered expr_covered_step
 
 pub operand_size_roll : (x : Operand-F Operand Step Expr)
     → operand_sized (roll-Operand x) ≡ operand_size (map-Operand Operand Step Expr ℕ ℕ ℕ operand_sized step_sized expr_size x)
@@ -175,17 +170,17 @@ pub expr_size_roll : (x : Expr-F Operand Step Expr)
 unfolding expr_size operand_sized step_sized
 expr_size_roll x = fold-roll-Expr ℕ ℕ ℕ operand_size step_size expr_size_step x
 
-operand_covered_roll : (x : Operand-F Operand Step Expr)
+pub operand_covered_roll : (x : Operand-F Operand Step Expr)
     → operand_is_covered (roll-Operand x) ≡ operand_covered (map-Operand Operand Step Expr Bool Bool Bool operand_is_covered step_is_covered expr_covered x)
 unfolding expr_covered operand_is_covered step_is_covered
 operand_covered_roll x = fold-roll-Operand Bool Bool Bool operand_covered step_covered expr_covered_step x
 
-step_covered_roll : (x : Step-F Operand Step Expr)
+pub step_covered_roll : (x : Step-F Operand Step Expr)
     → step_is_covered (roll-Step x) ≡ step_covered (map-Step Operand Step Expr Bool Bool Bool operand_is_covered step_is_covered expr_covered x)
 unfolding expr_covered operand_is_covered step_is_covered
 step_covered_roll x = fold-roll-Step Bool Bool Bool operand_covered step_covered expr_covered_step x
 
-expr_covered_roll : (x : Expr-F Operand Step Expr)
+pub expr_covered_roll : (x : Expr-F Operand Step Expr)
     → expr_covered (roll-Expr x) ≡ expr_covered_step (map-Expr Operand Step Expr Bool Bool Bool operand_is_covered step_is_covered expr_covered x)
 unfolding expr_covered operand_is_covered step_is_covered
 expr_covered_roll x = fold-roll-Expr Bool Bool Bool operand_covered step_covered expr_covered_step x

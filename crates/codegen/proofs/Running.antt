@@ -5,12 +5,10 @@ use Rattle.std.proofs.lemmas.Bool.{le-leb}
 use Rattle.std.proofs.lemmas.List.{length-reverse, reverse-append, reverse-reverse}
 use Rattle.std.proofs.Math.Seq.{take-append_seam, drop-append_seam}
 use Rattle.am_base.specs.declared.traps.TrapCause.{TrapCause}
-use Rattle.am_base.specs.declared.traps.TrapCause.TheVariants.{BadAddress, TextLimit}
-use Rattle.am_base.specs.declared.calls.LibCall.{LibCall}
-use Rattle.am_base.specs.declared.calls.MpiCall.{MpiCall}
+use Rattle.am_base.specs.declared.traps.TrapCause.TheVariants.{BadAddress}
 use Rattle.rank_range.specs.Areas.{Memory}
 use Rattle.rank_range.specs.Layout.{globals_start}
-use Rattle.rank_range.specs.Kinds.{extended, word_of, IsWordOf}
+use Rattle.rank_range.specs.Kinds.{extended, IsWordOf}
 use Rattle.rank_range.specs.Numbers.{bytes_in}
 use Rattle.rank_range.specs.Kinds.{width_of}
 use Rattle.rank_range.specs.Areas.{number_of}
@@ -20,20 +18,16 @@ use Rattle.rank_range.specs.declared.kinds.Kind.{Kind}
 use Rattle.rank_range.specs.declared.operators.Unary.{Unary as UnaryOperator}
 use Rattle.rank_range.specs.declared.operators.Binary.{Binary as Operator}
 use Rattle.mpi_types.specs.declared.call.Answer.{Answer}
-use Rattle.mpi_types.specs.declared.call.Answer.TheVariants.{Half, Value, Trap, End}
 use Rattle.vm_code.specs.declared.code.Code.{Code}
 use Rattle.vm_code.specs.declared.instr.Instr.{Instr}
 use Rattle.vm_code.specs.declared.instr.Instr.TheVariants as instr
-use Rattle.vm_code.specs.Memory.{address_of, loaded, stored, copied, zeroed, written_all}
-use Rattle.vm_code.specs.Stops.{Stop, Paused, Waits, Ended, Trapped, Done, asked, with_ticks, fits_text, printed}
-use Rattle.vm_code.specs.Library.{LibraryDone, library_does}
-use Rattle.vm_code.specs.Library as library
+use Rattle.vm_code.specs.Memory.{address_of, loaded, stored, copied, zeroed}
+use Rattle.vm_code.specs.Stops.{Stop, Paused, Trapped, Done, with_ticks}
 use Rattle.vm_code.specs.Lines.{Place, place_of}
 use Rattle.vm_code.specs.Machine as machine
 use Rattle.vm_code.specs.Machine.{Config, Frame, Moved, Went, Stopped, Stuck, Stops, operand_limit, act, one_step, follow, exec, go_on, at_place, with_many, call_of, second_place, behind_call}
-use Rattle.c_model.specs.Outcome.{Rest, Here, tick, traps, with_memory, set_memory, reading, writing, with_result, choose, printing}
+use Rattle.c_model.specs.Outcome.{Rest, Here, tick, traps, with_memory, reading, writing, with_result, choose}
 use Rattle.c_model.specs.Run.{load, store}
-use Rattle.c_model.specs.Calls.{library_done, library_call, mpi_tick, mpi_call}
 
 -- A call in which code runs: where it goes back to, where its frame lies, and the calls that wait for it.
 pub record Standing : Type 0 where

@@ -1,8 +1,6 @@
 -- The code of each operand and of each step does what it means, where that of the expressions in it does.
-use Rattle.std.proofs.Common.{◌≡◌, ℕ, ◌+◌, ◌*◌, ◌%◌, ◌^◌, ◌<◌, ◌≤◌, max, Bool, true, false, List, [], ◌∷◌, length, refl, sym, ap, ◌∙◌, subst, arith}
+use Rattle.std.proofs.Common.{◌≡◌, ℕ, ◌+◌, ◌*◌, ◌%◌, ◌^◌, ◌<◌, ◌≤◌, max, Bool, true, false, List, ◌∷◌, length, refl, sym, ap, ◌∙◌, subst, arith}
 use Rattle.std.specs.Prelude.{if◌then◌else◌, nat_eq, Ok}
-use Rattle.am_base.specs.declared.calls.LibCall.{LibCall}
-use Rattle.am_base.specs.declared.calls.MpiCall.{MpiCall}
 use Rattle.rank_range.specs.declared.kinds.Kind.{Kind}
 use Rattle.rank_range.specs.declared.kinds.Kind.TheVariants as kind
 use Rattle.rank_range.specs.declared.operators.Unary.{Unary as UnaryOperator}
@@ -25,11 +23,9 @@ use Rattle.c_types.specs.declared.expression.Given.TheVariants.{New, Old}
 use Rattle.c_types.specs.Need.{one_above, two_above, in_count}
 use Rattle.c_model.specs.Outcome.{Rest, Here, with_memory, writing, with_result, choose}
 use Rattle.c_model.specs.Run.{word_plus, word_minus, moved, load, store, element, elements_between, truth_of, negated, counted_kind, next_of, given_of}
-use Rattle.c_model.specs.Calls.{library_call, mpi_call}
-use Rattle.codegen.specs.Layout.{Part, nothing, one, ◌then◌, over, negation, word_of_truth, opposite, truths, converted, on_words, scaled, offset_part, moving, against, amount, given_part}
-use Rattle.codegen.proofs.Running.{Standing, Does, onto, from_place, does_push, does_pop, does_dup, does_unary, does_extend, does_local, does_global, does_load, does_store, does_copy, does_binary, does_word, does_jump, does_if_zero, does_if_not}
-use Rattle.codegen.proofs.Calling.{does_library, does_mpi}
-use Rattle.codegen.proofs.Spanning.{Spans, Lies, spans_none, spans_one, spans_then, spans_first, spans_over, spans_negation, spans_truths, AtFour}
+use Rattle.codegen.specs.Layout.{Part, one, ◌then◌, over, negation, truths, converted, on_words, scaled, offset_part, moving, against, amount, given_part}
+use Rattle.codegen.proofs.Running.{Standing, Does, from_place, does_push, does_pop, does_dup, does_unary, does_extend, does_local, does_global, does_load, does_store, does_copy, does_binary, does_word, does_jump, does_if_zero, does_if_not}
+use Rattle.codegen.proofs.Spanning.{Spans, Lies, spans_none, spans_one, spans_then, spans_first, spans_over, spans_negation, spans_truths}
 use Rattle.codegen.proofs.Wording.{gives_sum, gives_product, gives_difference, gives_moved, gives_back, plus_low, low_plus, minus_low, moved_low, converts, counts, counts_back, back, at_most_word, less_word, gives_at_most, gives_less, greater, at_least}
 
 -- Wherever the part lies in the code, the machine goes over it with the value on the operands, where so many may be there.

@@ -1,5 +1,5 @@
 -- The code of an expression puts its value on the operands.
-use Rattle.std.proofs.Common.{◌≡◌, ℕ, ◌+◌, ◌<◌, ◌≤◌, max, true, false, List, [], ◌∷◌, map, length, refl, sym, ap, ◌∙◌, subst, arith}
+use Rattle.std.proofs.Common.{◌≡◌, ℕ, ◌+◌, ◌<◌, ◌≤◌, max, true, false, List, [], ◌∷◌, map, length, refl, sym, ◌∙◌, subst, arith}
 use Rattle.am_base.specs.declared.calls.LibCall.{LibCall}
 use Rattle.am_base.specs.declared.calls.MpiCall.{MpiCall}
 use Rattle.rank_range.specs.Layout.{globals_start}
@@ -15,8 +15,7 @@ use Rattle.c_types.specs.declared.expression.Operand.TheFolds.{fold-roll-Operand
 use Rattle.c_types.specs.Need.{in_arguments, in_call, operand_step, step_step, behind_all, expr_step as need_step, need_first, need_behind, need_of}
 use Rattle.c_model.specs.Outcome.{Rest, Here}
 use Rattle.c_model.specs.Run.{Calling, Surroundings, Value, in_order_of, operand_value, step_value, steps_value, value_step, value}
-use Rattle.c_model.specs.Calls.{library_call, mpi_call}
-use Rattle.codegen.specs.Layout.{Part, nothing, one, ◌then◌, in_order, operand_part, step_part, expr_step, expr_part, operand_code, step_code}
+use Rattle.codegen.specs.Layout.{Part, in_order, operand_part, step_part, expr_step, expr_part, operand_code, step_code}
 use Rattle.codegen.proofs.Running.{Standing, Does, onto, from_place}
 use Rattle.codegen.proofs.Calling.{does_library, does_mpi}
 use Rattle.codegen.proofs.Spanning.{Spans, Lies, spans_none, spans_one, spans_then, spans_first}

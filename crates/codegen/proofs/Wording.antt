@@ -1,12 +1,10 @@
 -- What the operators give on words, as on addresses, and how a word is converted and counted.
-use Rattle.std.proofs.Common.{◌≡◌, ℕ, ◌+◌, ◌*◌, ◌-◌, ◌%◌, ◌^◌, ◌<◌, ◌≤◌, Bool, true, false, not, refl, sym, ap, ◌∙◌, arith}
-use Rattle.std.specs.Prelude.{ℤ, pos, negsuc, int_lt, int_le, ◌+ℤ◌, ◌-ℤ◌, if◌then◌else◌, nat_eq, Result, Ok}
-use Rattle.std.proofs.lemmas.Int.{ints}
-use Rattle.am_base.specs.declared.traps.TrapCause.{TrapCause}
+use Rattle.std.proofs.Common.{◌≡◌, ℕ, ◌+◌, ◌*◌, ◌-◌, ◌%◌, ◌^◌, ◌<◌, Bool, true, false, not, refl, sym, ap, ◌∙◌, arith}
+use Rattle.std.specs.Prelude.{ℤ, pos, negsuc, int_lt, int_le, ◌+ℤ◌, ◌-ℤ◌, Ok}
 use Rattle.rank_range.specs.declared.kinds.Kind.{Kind}
 use Rattle.rank_range.specs.declared.kinds.Kind.TheVariants as kind
 use Rattle.rank_range.specs.declared.operators.Binary.TheVariants as op
-use Rattle.rank_range.specs.Kinds.{low_bits, reduced, word_of, value_of, extended, convert, IsWordOf}
+use Rattle.rank_range.specs.Kinds.{reduced, word_of, value_of, extended, convert, IsWordOf}
 use Rattle.rank_range.specs.Operators.{truth, operate}
 use Rattle.rank_range.proofs.KindLemmas.{unsigned_long_word}
 use Rattle.rank_range.proofs.OperatorLemmas.{added, subtracted, multiplied, converted, value_back, are_extended}

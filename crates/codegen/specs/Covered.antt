@@ -1,6 +1,8 @@
 -- The programs whose code is shown to mean them: `main` calls no function of the program, and has no `switch`.
-use Rattle.std.specs.Prelude.{ℕ, ◌≡◌, ◌≤◌, ◌&&◌, Bool, true, false, List, [], ◌∷◌, length, map, Option, None, Some, slice_get}
+use Rattle.std.specs.Prelude.{◌≡◌, ◌≤◌, ◌&&◌, Bool, true, false, List, [], ◌∷◌, length, map, Option, None, Some, slice_get}
 use Rattle.c_types.specs.declared.expression.Operand.TheOpen.{Operand-F, Step-F, Expr-F}
+use Rattle.c_types.specs.declared.expression.Operand.{Operand, fold-Operand}
+use Rattle.c_types.specs.declared.expression.Step.{Step, fold-Step}
 use Rattle.c_types.specs.declared.expression.Expr.{Expr, fold-Expr}
 use Rattle.c_types.specs.declared.expression.FullExpr.{FullExpr}
 use Rattle.c_types.specs.declared.statement.Stmt.{Stmt, fold-Stmt}
@@ -49,6 +51,13 @@ step_covered (Step-F.Count counted direction given) = true
 abbrev pub expr_covered_step : Expr-F Bool Bool Bool → Bool
 expr_covered_step e = e.first && all_true e.steps
 
+-- the same of operands and steps
+unfoldable pub operand_is_covered : Operand → Bool
+operand_is_covered = fold-Operand Bool Bool Bool operand_covered step_covered expr_covered_step
+
+unfoldable pub step_is_covered : Step → Bool
+step_is_covered = fold-Step Bool Bool Bool operand_covered step_covered expr_covered_step
+
 -- whether an expression calls no function of the program
 unfoldable pub expr_covered : Expr → Bool
 expr_covered = fold-Expr Bool Bool Bool operand_covered step_covered expr_covered_step
@@ -93,6 +102,13 @@ stmt_covered_step (Stmt-F.Return line e) = covered_if e
 
 unfoldable pub stmt_covered : Stmt → Bool
 stmt_covered = fold-Stmt Bool stmt_covered_step
+
+-- a body with at most the two parameters that `main` may have, whose statements are covered
+pub record IsCoveredBody (o : Option Body) : Type 0 where
+  pub body : Body
+  pub body_is : o ≡ Some body
+  pub few : length body.parameters ≤ 2
+  pub covered : all_true (map stmt_covered body.stmts) ≡ true
 
 -- `main` is defined, with at most the two parameters that it may have, and its statements are covered.
 pub record IsCovered (program : Program) (main : Main) : Type 0 where

@@ -1,5 +1,5 @@
 -- The code of statements, functions and programs.
-use Rattle.std.specs.Prelude.{ℕ, ◌≡◌, ◌+◌, List, [], ◌∷◌, ◌++◌, length, map, Option, None, Some, get_or}
+use Rattle.std.specs.Prelude.{ℕ, ◌≡◌, ◌+◌, List, [], ◌∷◌, map, Option, None, Some, get_or}
 use Rattle.rank_range.specs.declared.run.Segment.{Segment}
 use Rattle.c_types.specs.declared.expression.FullExpr.{FullExpr}
 use Rattle.c_types.specs.declared.statement.Stmt.{Stmt, fold-Stmt}

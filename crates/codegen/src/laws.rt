@@ -1,6 +1,7 @@
-//! Laws of laid-out code.
+//! Laws of laid-out code and of what is answered.
 
 ghost use Rattle.codegen.specs.Laws.{LaidOutCodeIsBounded, LaidOutCodeMeans};
+ghost use Rattle.codegen.specs.Answers.{RefusalsAreAnswered, SomeAnswerIsThere};
 
 /// A law: code that is laid out as a program's means the program, where `main` calls no function of the program and has no
 /// `switch`, and no more values are pending anywhere than may be.
@@ -11,4 +12,14 @@ pub fn laid_out_code_means_its_program()
 /// A law: in instructions that are laid out as a program's each jump that doesn't lead forward leads to a tick point.
 pub fn laid_out_code_is_bounded()
     ensures { LaidOutCodeIsBounded }
+{}
+
+/// A law: a refusal that is true of a program is what is answered, unless memory runs out.
+pub fn refusals_are_answered()
+    ensures { RefusalsAreAnswered }
+{}
+
+/// A law: to each program there is an answer that doesn't tell of memory.
+pub fn some_answer_is_there()
+    ensures { SomeAnswerIsThere }
 {}

@@ -1,0 +1,6 @@
+use Rattle.std.proofs.Common.{sym}
+use Rattle.codegen.proofs.Covering.{main_covered}
+use Rattle.codegen.proofs.covers.covers_main.Goals as goal
+
+pub returns-in-Some : goal.returns-in-Some
+returns-in-Some c = main_covered c.args.program.now c.args.main _ c.covers_body.result (sym c.in-Some.ensures.value) c.covers_body.ensures

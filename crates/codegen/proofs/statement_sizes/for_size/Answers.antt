@@ -1,0 +1,7 @@
+use Rattle.codegen.proofs.StatementSizing.{for_is}
+use Rattle.codegen.proofs.statement_sizes.for_size.Goals as goal
+
+pub returns : goal.returns
+returns c =
+    for_is _ _ _ _ _ _ _ _ _ _ _ _ c.all_declared_size.ensures c.with_one.ensures c.with_one-2.ensures c.again_size.ensures c.saturating_add.ensures
+    c.saturating_add-2.ensures c.saturating_add-3.ensures c.saturating_add-4.ensures

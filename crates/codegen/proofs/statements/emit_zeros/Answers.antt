@@ -1,0 +1,12 @@
+use Rattle.std.proofs.lemmas.Result.{on_ok_weaker}
+use Rattle.codegen.specs.Statements.{zeros_part}
+use Rattle.codegen.proofs.Adding.{adds_none, adds_then}
+use Rattle.codegen.proofs.Stating.{adds_at}
+use Rattle.codegen.proofs.statements.emit_zeros.Goals as goal
+
+pub returns-in-None : goal.returns-in-None
+returns-in-None c = adds_at _ _ zeros_part _ _ c.in-None.is (adds_none _)
+
+pub returns-in_ok-put-in-Some : goal.returns-in_ok-put-in-Some
+returns-in_ok-put-in-Some c =
+    on_ok_weaker c.put-in-Some.result (λ h. adds_at _ _ zeros_part _ _ c.in-Some.is (adds_then _ _ _ _ _ c.in_ok-put-in-Some.ensures h)) c.put-in-Some.ensures
