@@ -1,0 +1,9 @@
+use Rattle.rank_image.proofs.HeapLaw.{heap_is_tested}
+use Rattle.rank_image.proofs.ImageLemmas.{records_are_tested}
+use Rattle.rank_image.proofs.laws.tests_are_relations.Goals as goal
+
+pub returns-clause-heap : goal.returns-clause-heap
+returns-clause-heap c = heap_is_tested
+
+pub returns-clause-records : goal.returns-clause-records
+returns-clause-records c = records_are_tested
