@@ -1,0 +1,4 @@
+//! The cases of images.
+
+mod images;
+mod made;
