@@ -1,19 +1,20 @@
 -- Laws of images, and what a fitting rank says of its parts.
 use Rattle.std.proofs.Common.{◌≡◌, ◌∙◌, ◌+◌, ◌<◌, ◌≤◌, ◌↔◌, ℕ, zero, suc, Bool, true, ◌&&◌, nat_le, List, [], ◌∷◌, ◌++◌, length, Option, Some, None, refl, sym, ap, subst, inl, inr, arith, append-nil, append_assoc}
 use Rattle.std.proofs.lemmas.Bool.{eqb-true, cases_eq, leb-true, le-leb}
-use Rattle.std.specs.Prelude.{Result, IfOk}
+use Rattle.std.specs.Prelude.{Result, IfOk, nat_lt, take, drop}
+use Rattle.std.specs.Int.{w16, from_le_bytes}
 use Rattle.std.proofs.Common.{Ok, Err}
 use Rattle.rank_image.specs.Head.{head}
 use Rattle.am_base.specs.declared.numbers.RankId.{RankId}
 use Rattle.byte_formats.specs.Formats.{number16, both}
-use Rattle.byte_formats.specs.FormatLaws.{number16_is, none_found}
+use Rattle.byte_formats.specs.FormatLaws.{number16_is, none_found, chosen}
 use Rattle.rank_image.specs.Middle.{middle, rank, tail}
 use Rattle.rank_image.specs.Requests.{requests}
 use Rattle.byte_formats.specs.FormatLaws.{both_true, and_is_true}
 use Rattle.byte_formats.specs.ChoiceLaws.{one_value}
 use Rattle.byte_formats.specs.Lawful.{Spells}
 use Rattle.rank_range.specs.Layout.{range_bytes, stack_start}
-use Rattle.rank_image.specs.Image.{Rank, Parts, IsImage, image, rank_made, parts_of, are_sound, fits_record, fit_records, frame_start, frame_end, operand_count, top_at}
+use Rattle.rank_image.specs.Image.{Rank, Parts, IsImage, rank_number, image, rank_made, parts_of, are_sound, fits_record, fit_records, frame_start, frame_end, operand_count, top_at}
 use Rattle.rank_image.specs.ImageLaws.{image_is}
 use Rattle.rank_image.specs.State.{IsUnpacked}
 use Rattle.rank_image.specs.Sound.{IsRecord, RecordsAreTested, IsOneImage, HasOneImage, NoneIsLonger}
@@ -133,3 +134,14 @@ same_rank bytes rest n r read s =
 
 pub rank_is_read : (bytes : List ℕ) → IsImage bytes → number16.read bytes ≡ None → ⊥
 rank_is_read bytes i none = let some = rank_read bytes i.0 i.1 in none_found (i.0.rank.0, some.0) (sym none ∙ some.1)
+
+-- the number that is read at the front is the image's number
+pub number_read : (bytes rest : List ℕ) (n : ℕ) → number16.read bytes ≡ Some (n, rest) → n ≡ rank_number bytes
+unfolding number16 rank_number
+number_read bytes rest n e =
+    elim (chosen (nat_lt (length bytes) 2) None (Some (from_le_bytes w16 (take 2 bytes), drop 2 bytes)) (Some (n, rest)) e) [
+      | inl short ↦ absurd (none_found (n, rest) short.1)
+      | inr enough ↦
+          let is : ◌≡◌ {A = ℕ × List ℕ} (from_le_bytes w16 (take 2 bytes), drop 2 bytes) (n, rest) = cc in
+          sym (ap (λ (p : ℕ × List ℕ). p.0) is)
+    ]

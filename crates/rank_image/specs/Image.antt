@@ -1,5 +1,6 @@
 -- What a rank is between its ticks, and the bytes of its image. This profile's own.
-use Rattle.std.specs.Prelude.{ℕ, zero, suc, ◌≡◌, ◌+◌, ◌*◌, ◌&&◌, ◌==◌, nat_le, nat_lt, Bool, true, List, length}
+use Rattle.std.specs.Prelude.{ℕ, zero, suc, ◌≡◌, ◌+◌, ◌*◌, ◌&&◌, nat_le, nat_lt, Bool, true, ◌==◌, if◌then◌else◌, false, Option, Some, None, List, length, take}
+use Rattle.std.specs.Int.{w16, from_le_bytes}
 use Rattle.std.specs.List.{list_all}
 use Rattle.am_base.specs.declared.numbers.RankId.{RankId}
 use Rattle.byte_formats.specs.Formats.{Format, block, both, made, restricted}
@@ -142,6 +143,23 @@ are_sound p = fit_records p.0.1 p.1.0.regs.depth && (is_sound_heap p.0.1 && are_
 -- that belong to trees.
 unfoldable pub image : Format Rank
 image = made (restricted (both (both rank (block range_bytes)) (both head (both middle tail))) are_sound) rank_made parts_of
+
+-- the number of an image's rank, with which it begins
+unfoldable pub rank_number : List ℕ → ℕ
+rank_number bytes = from_le_bytes w16 (take 2 bytes)
+
+-- what was read, where nothing stands behind it
+abbrev pub ended : {X : Type 0} → Option (X × List ℕ) → Option X
+ended None = None
+ended (Some found) = if length found.1 == 0 then Some found.0 else None
+
+abbrev pub is_there : {X : Type 0} → Option X → Bool
+is_there None = false
+is_there (Some x) = true
+
+-- whether the bytes are an image
+unfoldable pub is_image : List ℕ → Bool
+is_image bytes = is_there (ended (image.read bytes))
 
 -- The bytes are the image of a rank.
 abbrev pub IsImage : List ℕ → Type 0

@@ -1,10 +1,10 @@
 -- That the tests by which images are read are the relations that they stand for.
 use Rattle.std.specs.Prelude.{ℕ, ◌≡◌, ◌<◌, ◌≤◌, ◌+◌, ◌↔◌, true, List, [], ◌++◌}
-use Rattle.byte_formats.specs.Lawful.{Spells}
+use Rattle.byte_formats.specs.Lawful.{Spells, AreBytes}
 use Rattle.rank_range.specs.Layout.{range_bytes, stack_start}
 use Rattle.rank_range.specs.Nodes.{IsSoundHeap}
 use Rattle.rank_image.specs.HeapTest.{is_sound_heap}
-use Rattle.rank_image.specs.Image.{Rank, image, frame_start, frame_end, operand_count, fit_records}
+use Rattle.rank_image.specs.Image.{Rank, image, is_image, IsImage, frame_start, frame_end, operand_count, fit_records}
 
 -- The bytes spell a heap.
 abbrev pub HasNodes : List ℕ → Type 0
@@ -24,6 +24,10 @@ pub record IsRecord (bytes : List ℕ) (k : ℕ) : Type 0 where
 -- The test of records tells whether so it is with each of them.
 abbrev pub RecordsAreTested : Type 0
 RecordsAreTested = (bytes : List ℕ) (depth : ℕ) → (fit_records bytes depth ≡ true) ↔ ((k : ℕ) → k < depth → IsRecord bytes k)
+
+-- The test of bytes tells whether they are an image.
+abbrev pub ImagesAreTested : Type 0
+ImagesAreTested = (bytes : List ℕ) → AreBytes bytes → (is_image bytes ≡ true) ↔ IsImage bytes
 
 -- Bytes are the image of one rank at most.
 abbrev pub IsOneImage : Type 0

@@ -5,7 +5,7 @@ ghost use Rattle.byte_formats.specs.Lawful.{Spells};
 ghost use Rattle.rank_range.specs.Layout.{IsMarked};
 ghost use Rattle.rank_image.specs.Middle.{middle, tail};
 ghost use Rattle.rank_image.specs.Requests.{requests};
-ghost use Rattle.rank_image.specs.Image.{Rank, image, IsImage, rank_made, top_at, middle_with, tail_with};
+ghost use Rattle.rank_image.specs.Image.{Rank, image, is_image, IsImage, rank_number, rank_made, top_at, middle_with, tail_with};
 ghost use Rattle.rank_image.specs.State.{rank_of, IsSound, IsUnpacked};
 
 use crate::head::{Head, put_head};
@@ -62,7 +62,7 @@ impl ImageBytes {
     ///
     /// Only want of memory.
     pub fn of(alloc: Global, bytes: &[u8]) -> Result<Option<ImageBytes>, AllocError>
-        ensures { IfOk result (λ o. MatchOption o (IsImage bytes.now → ⊥) (λ i. i ≡ bytes.now)) }
+        ensures { IfOk result (λ o. MatchOption o (is_image bytes.now ≡ false) (λ i. (i ≡ bytes.now) × (is_image bytes.now ≡ true))) }
     {
         if !is_image(alloc, bytes)? {
             return Ok(None);
@@ -73,7 +73,8 @@ impl ImageBytes {
 
     /// The rank whose image it is.
     pub fn rank(&self) -> RankId
-        ensures { (r : Rank) → Spells image self.now r → result ≡ r.rank }
+        ensures value { result.0 ≡ rank_number self.now }
+        ensures owner { (r : Rank) → Spells image self.now r → result ≡ r.rank }
     {
         let mut cursor = Cursor {
             rest: self.as_slice(),
@@ -95,9 +96,10 @@ impl ImageBytes {
 }
 
 /// Whether the bytes are an image. It fails only for want of memory.
+#[tactic(auto, unfolding(crate::specs::Image::is_image))]
 fn is_image(alloc: Global, bytes: &[u8]) -> Result<bool, AllocError>
+    ensures told { IfOk result (λ b. b ≡ is_image bytes.now) }
     ensures yes { IfOk result (λ b. b ≡ true → IsImage bytes.now) }
-    ensures no { IfOk result (λ b. b ≡ false → IsImage bytes.now → ⊥) }
 {
     let mut cursor = Cursor { rest: bytes };
     match take_image(alloc, &mut cursor) {
