@@ -19,7 +19,7 @@ use crate::requests::Requests;
 use crate::tail::{Tail, put_arrived, put_held, put_pairs, put_tree};
 use am_base::{Bytes, RankId};
 use byte_formats::{Cursor, Unspelled, put_u16, take_u16};
-use mpi_types::{BookLists, MatchBook, MpiState, OwnData, Reorder, Sequence, Sweep};
+use mpi_types::{BookLists, MatchBook, MpiState, OwnData, Phase, Reorder, Sequence, Sweep};
 use rank_range::{Ending, Mem, Regs};
 use std::alloc::{AllocError, Global};
 use std::marker::Model;
@@ -266,17 +266,20 @@ fn with_memory<M: Mem + Drop, B: MatchBook>(
     }
 }
 
-/// The state of a memory and of what stands behind the memory's bytes in an image.
-fn with_rest<M: Mem + Drop, B: MatchBook>(
-    alloc: Global,
-    memory: M,
-    rest: Rest,
-) -> Result<RankState<M, B>, AllocError>
-    requires { requests.fits rest.middle.requests ≡ true }
-    ensures memory { IfOk result (λ s. s.memory ≡ memory) }
-    ensures rest { IfOk result (λ s. (number : ℕ) (bytes : List ℕ) → rank_of number bytes s.regs s.ending s.load s.mpi.own s.mpi.sweep (B.held s.mpi.book) s.sent s.reorder ≡ rank_made ((record { 0 = number }, bytes), (rest.head, (rest.middle, rest.tail)))) }
+/// What a state has of MPI, with the lists of its book.
+#[derive(Drop)]
+struct MpiParts {
+    own: OwnData,
+    sweep: Sweep,
+    lists: BookLists,
+    sent: Sequence<u64>,
+    reorder: Reorder,
+}
+
+/// What a state has of MPI, of the parts of an image.
+fn mpi_of(phase: Phase, middle: Middle, tail: Tail) -> MpiParts
+    ensures { (number : ℕ) (bytes : List ℕ) (regs : Regs) (ending : Ending) (load : Load) → rank_of number bytes regs ending load result.own result.sweep result.lists result.sent result.reorder ≡ rank_made ((record { 0 = number }, bytes), (record { regs = regs; ending = ending; phase = phase; load = load }, (middle, tail))) }
 {
-    let Rest { head, middle, tail } = rest;
     let Middle {
         requests,
         communicators,
@@ -295,25 +298,52 @@ fn with_rest<M: Mem + Drop, B: MatchBook>(
         arrived,
         tree,
     } = tail;
-    let Head {
-        regs,
-        ending,
-        phase,
-        load,
-    } = head;
     let own = OwnData {
         phase,
         next,
         complete,
         communicators,
     };
-    let sweep = Sweep { joined, tree };
-    let reorder = Reorder { expected, held };
     let lists = BookLists {
         posted,
         matched,
         arrived,
     };
+    let sweep = Sweep { joined, tree };
+    let reorder = Reorder { expected, held };
+    MpiParts {
+        own,
+        sweep,
+        lists,
+        sent,
+        reorder,
+    }
+}
+
+/// The state of a memory and of what stands behind the memory's bytes in an image.
+fn with_rest<M: Mem + Drop, B: MatchBook>(
+    alloc: Global,
+    memory: M,
+    rest: Rest,
+) -> Result<RankState<M, B>, AllocError>
+    requires { requests.fits rest.middle.requests ≡ true }
+    ensures memory { IfOk result (λ s. s.memory ≡ memory) }
+    ensures rest { IfOk result (λ s. (number : ℕ) (bytes : List ℕ) → rank_of number bytes s.regs s.ending s.load s.mpi.own s.mpi.sweep (B.held s.mpi.book) s.sent s.reorder ≡ rank_made ((record { 0 = number }, bytes), (rest.head, (rest.middle, rest.tail)))) }
+{
+    let Rest { head, middle, tail } = rest;
+    let Head {
+        regs,
+        ending,
+        phase,
+        load,
+    } = head;
+    let MpiParts {
+        own,
+        sweep,
+        lists,
+        sent,
+        reorder,
+    } = mpi_of(phase, middle, tail);
     match B::from_lists(alloc, lists) {
         Ok(book) => Ok(RankState {
             memory,
@@ -326,12 +356,7 @@ fn with_rest<M: Mem + Drop, B: MatchBook>(
         }),
         Err(error) => {
             drop(memory);
-            drop(regs);
-            drop(load);
-            drop(own);
-            drop(sweep);
-            drop(sent);
-            drop(reorder);
+            drop((regs, load, own, sweep, sent, reorder));
             Err(error)
         }
     }
