@@ -1,12 +1,12 @@
 -- Which processors keep a rank, and which rank was lost with both of them. This profile's own.
-use Rattle.std.specs.Prelude.{ℕ, ◌≡◌, ◌+◌, ◌<◌, ◌==◌, ◌&&◌, ◌/◌, ◌%◌, ◌^◌, not, if◌then◌else◌, Bool, true, false, List, [], ◌∷◌, length, get_or, Option, Some, None}
+use Rattle.std.specs.Prelude.{ℕ, ◌≡◌, ◌+◌, ◌<◌, ◌==◌, ◌&&◌, ◌/◌, ◌%◌, ◌^◌, not, nat_lt, if◌then◌else◌, Bool, true, false, List, [], ◌∷◌, length, get_or, Option, Some, None}
 use Rattle.am_base.specs.declared.numbers.ProcId.{ProcId}
 use Rattle.am_base.specs.declared.numbers.RankId.{RankId}
 use Rattle.buddy_ckpt.specs.declared.keepers.Pair.{Pair}
 
--- whether bit p of the number is set
+-- whether bit p of the number is set, of 64 bits
 unfoldable pub has : ℕ → ℕ → Bool
-has set p = (set / 2 ^ p) % 2 == 1
+has set p = nat_lt p 64 && ((set / 2 ^ p) % 2 == 1)
 
 -- both keepers of a rank are none of these processors
 abbrev pub are_lost : ℕ → Pair → Bool
@@ -28,11 +28,6 @@ pub record IsLeastLost (live : ℕ) (keepers : List Pair) (lost : Lost) : Type 0
   pub keepers_are : (d : Pair) → (lost.1 ≡ (get_or keepers lost.0.0 d).saver) × (lost.2 ≡ (get_or keepers lost.0.0 d).buddy)
   pub both : are_lost live (record { saver = lost.1; buddy = lost.2 }) ≡ true
   pub least : (r : ℕ) (d : Pair) → r < lost.0.0 → are_lost live (get_or keepers r d) ≡ false
-
--- The keepers' numbers are those of processors.
-pub record IsPair (k : Pair) : Type 0 where
-  pub saver : k.saver.0 < 64
-  pub buddy : k.buddy.0 < 64
 
 abbrev pub IsAnswer : ℕ → List Pair → Option Lost → Type 0
 IsAnswer live keepers None = (r : ℕ) (d : Pair) → r < length keepers → are_lost live (get_or keepers r d) ≡ false

@@ -1,8 +1,7 @@
 //! The keepers of each rank, and the rank that was lost with both.
 
 ghost use Rattle.std.specs.Prelude.{◌≡◌, ◌<◌, ◌≤◌, ◌++◌, ◌∷◌, [], length, OnOk, OnErr};
-ghost use Rattle.std.specs.List.{All};
-ghost use Rattle.buddy_ckpt.specs.Keepers.{has, are_lost, lost_from, IsPair, LostIsLeast};
+ghost use Rattle.buddy_ckpt.specs.Keepers.{has, are_lost, lost_from, LostIsLeast};
 
 use am_base::{ProcId, RankId};
 use std::alloc::{AllocError, Global};
@@ -23,7 +22,6 @@ pub struct Keepers {
 
 impl Model for Keepers {
     ghost use Rattle.std.specs.Prelude.{List};
-    ghost use Rattle.std.specs.List.{All};
     ghost use Rattle.buddy_ckpt.specs.declared.keepers.Pair.{Pair};
 
     ghost Value = { List Pair };
@@ -66,17 +64,14 @@ impl ProcSet {
     /// Whether the processor is in the set.
     #[tactic(auto, unfolding(crate::specs::Keepers::has))]
     pub fn has(&self, p: ProcId) -> bool
-        requires { p.0 < 64 }
         ensures { result ≡ has self.now.0 p.0 }
     {
-        (self.0 >> p.0) % 2 == 1
+        p.0 < 64 && (self.0 >> p.0) % 2 == 1
     }
 }
 
 /// Whether both keepers of a rank are none of these processors.
 fn are_lost(live: &ProcSet, pair: Pair) -> bool
-    requires saver { pair.saver.0 < 64 }
-    requires buddy { pair.buddy.0 < 64 }
     ensures { result ≡ are_lost live.now.0 pair }
 {
     !live.has(pair.saver) && !live.has(pair.buddy)
@@ -85,8 +80,7 @@ fn are_lost(live: &ProcSet, pair: Pair) -> bool
 /// The least rank whose two keepers are both none of the live processors, with the one that saved it and that one's buddy. It
 /// takes no memory.
 pub fn lost_both(k: &Keepers, live: &ProcSet) -> Option<(RankId, ProcId, ProcId)>
-    requires few { length k.now ≤ 65536 }
-    requires procs { All IsPair k.now }
+    requires { length k.now ≤ 65536 }
     ensures { result ≡ lost_from live.now.0 0 k.now }
 {
     let pairs = k.as_slice();
