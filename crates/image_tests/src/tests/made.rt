@@ -4,7 +4,7 @@ use am_base::{Bytes, put_u16, put_u32, put_u64};
 use std::alloc::{AllocError, Global};
 
 /// How many bytes stand before the bytes of the memory.
-const FRONT: usize = 2;
+pub const FRONT: usize = 2;
 
 /// How many bytes a memory has, and where its descriptors stand.
 const MEMORY: usize = 1_048_576;
@@ -30,7 +30,7 @@ fn put_zeros(out: &mut Bytes, count: usize) -> Result<(), AllocError> {
 }
 
 /// A memory with an empty heap, and the record of one call whose frame has 32 bytes and which has 2 operands.
-pub(crate) fn put_memory(out: &mut Bytes) -> Result<(), AllocError> {
+pub fn put_memory(out: &mut Bytes) -> Result<(), AllocError> {
     put_u32(out, 0)?;
     put_u32(out, 1)?;
     put_u32(out, 0)?;
@@ -48,7 +48,7 @@ pub(crate) fn put_memory(out: &mut Bytes) -> Result<(), AllocError> {
 }
 
 /// What stands behind the memory of a rank before its first tick, of a run of two ranks.
-pub(crate) fn put_start(out: &mut Bytes) -> Result<(), AllocError> {
+pub fn put_start(out: &mut Bytes) -> Result<(), AllocError> {
     put_zeros(out, 4 + 2 + 1 + 8 + 1 + 4 + 4 + 4 + 4 + 8 + 1)?;
     put_u32(out, 1)?;
     put_u32(out, 0)?;
@@ -165,7 +165,7 @@ fn put_tail(out: &mut Bytes) -> Result<(), AllocError> {
 }
 
 /// The image of rank 1 of a run of two ranks, before its first tick.
-pub(crate) fn start_image(alloc: Global) -> Result<Bytes, AllocError> {
+pub fn start_image(alloc: Global) -> Result<Bytes, AllocError> {
     let mut out = Bytes::new(alloc);
     put_u16(&mut out, 1)?;
     put_memory(&mut out)?;
@@ -174,7 +174,7 @@ pub(crate) fn start_image(alloc: Global) -> Result<Bytes, AllocError> {
 }
 
 /// What stands behind the memory of a rank that has something of each kind.
-pub(crate) fn full_rest(alloc: Global) -> Result<Bytes, AllocError> {
+pub fn full_rest(alloc: Global) -> Result<Bytes, AllocError> {
     let mut out = Bytes::new(alloc);
     put_head(&mut out)?;
     put_middle(&mut out)?;
@@ -183,7 +183,7 @@ pub(crate) fn full_rest(alloc: Global) -> Result<Bytes, AllocError> {
 }
 
 /// The image of rank 1 with these bytes behind its memory.
-pub(crate) fn image_with(alloc: Global, rest: &[u8]) -> Result<Bytes, AllocError> {
+pub fn image_with(alloc: Global, rest: &[u8]) -> Result<Bytes, AllocError> {
     let mut out = Bytes::new(alloc);
     put_u16(&mut out, 1)?;
     put_memory(&mut out)?;
