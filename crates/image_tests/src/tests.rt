@@ -1,0 +1,5 @@
+//! The cases of images.
+
+mod images;
+mod made;
+mod packets;

@@ -1,0 +1,10 @@
+pub mod Reading
+pub mod Sorting
+pub mod Merging
+pub mod Filling
+pub mod Chains
+pub mod Orderly
+pub mod Counts
+pub mod HeapTests
+pub mod HeapLaw
+pub mod ImageLemmas

@@ -1,0 +1,16 @@
+pub mod Codes
+pub mod Messages
+pub mod CodeLaws
+pub mod MessageLaws
+pub mod Head
+pub mod HeadLaws
+pub mod Requests
+pub mod RequestLaws
+pub mod Middle
+pub mod MiddleLaws
+pub mod Memory
+pub mod HeapTest
+pub mod Image
+pub mod ImageLaws
+pub mod State
+pub mod Sound
