@@ -1,6 +1,6 @@
 -- Collectives (MPI 3.1, chapter 5 and section 6.4.2, and this profile's own `AMPI_Migrate`): a rank joins one at the first
 -- tick, and has its share of it at the second, once it has gathered the arguments of all members.
-use Rattle.std.specs.Prelude.{ℕ, ℤ, pos, zero, suc, ◌+◌, ◌*◌, ◌==◌, ◌&&◌, ◌||◌, not, nat_le, int_lt, unsigned_abs, if◌then◌else◌, Bool, true, false, Option, Some, None, is_some, unwrap_or, List, [], ◌∷◌, ◌++◌, length, slice_index, slice_get, bytes_eq}
+use Rattle.std.specs.Prelude.{ℕ, ℤ, pos, zero, suc, ◌+◌, ◌*◌, ◌==◌, ◌&&◌, ◌||◌, not, nat_le, int_lt, if◌then◌else◌, Bool, true, false, Option, Some, None, is_some, unwrap_or, List, [], ◌∷◌, ◌++◌, length, slice_index, slice_get, bytes_eq}
 use Rattle.std.specs.Ordering.{int_eq}
 use Rattle.rank_range.specs.Areas.{Areas}
 use Rattle.mpi_types.specs.declared.argument.Arg.{Arg}
@@ -22,7 +22,7 @@ use Rattle.mpi_rules.specs.declared.faults.Faults.{Faults}
 use Rattle.mpi_rules.specs.declared.faults.LateFaults.{LateFaults}
 use Rattle.mpi_rules.specs.declared.given.Joining.{Joining}
 use Rattle.mpi_rules.specs.Data.{MpiData, is_running, communicator_limit, level_limit, communicator_in, comm_facts, is_taken, with_communicator, with_next_position}
-use Rattle.mpi_rules.specs.Places.{int_at, count_of, datatype_named, operation_named, bytes_of, is_open, read_at, write_of, int_write, are_open}
+use Rattle.mpi_rules.specs.Places.{int_at, count_of, byte_of, datatype_named, operation_named, bytes_of, is_open, read_at, write_of, int_write, are_open}
 use Rattle.mpi_rules.specs.Messages.{group_of}
 use Rattle.mpi_rules.specs.Reply.{Reply, Gives, NotYet, half, writing, with_own, checked, ended, no_faults}
 
@@ -195,8 +195,8 @@ arg_of areas facts args =
       member = facts.member;
       kind = args.kind;
       root = args.root;
-      operation = unsigned_abs args.operation;
-      datatype = unsigned_abs (told_by args.kind args).datatype;
+      operation = byte_of args.operation;
+      datatype = byte_of (told_by args.kind args).datatype;
       count = count_of (told_by args.kind args).count;
       colour = args.colour;
       key = args.key;

@@ -24,6 +24,11 @@ abbrev pub count_of : ℤ → ℕ
 count_of (pos n) = n
 count_of (negsuc n) = 0
 
+-- an int as the number of a byte; one that is no such number is 0
+abbrev pub byte_of : ℤ → ℕ
+byte_of (pos n) = if nat_lt n 256 then n else 0
+byte_of (negsuc n) = 0
+
 -- the datatype and the operation that an int names
 abbrev pub byte_named : {X : Type 0} → (ℕ → Option X) → ℤ → Option X
 byte_named of (pos n) = if nat_lt n 256 then of n else None

@@ -46,7 +46,7 @@ pub struct CommFacts {
     /// How many members it has.
     pub members: usize,
     /// The rank's own number in it.
-    pub member: u16,
+    pub member: usize,
     /// How many levels its context has.
     pub depth: usize,
 }
