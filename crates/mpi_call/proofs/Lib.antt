@@ -1,0 +1,4 @@
+pub mod DoesLemmas
+pub mod LiveLemmas
+pub mod RangeLemmas
+pub mod SizeLemmas

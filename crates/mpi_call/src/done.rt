@@ -1,5 +1,7 @@
 //! What a call gives.
 
+ghost use Rattle.std.specs.Prelude.{◌≡◌, pos, [], Some, None};
+
 use collectives::SweepOut;
 use am_base::TrapCause;
 use mpi_rules::SendOut;

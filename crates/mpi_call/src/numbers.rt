@@ -1,6 +1,6 @@
 //! Numbers of arguments, and what they name.
 
-ghost use Rattle.std.specs.Prelude.{◌≡◌, ◌<◌, ◌≤◌, ◌^◌, length, slice_index};
+ghost use Rattle.std.specs.Prelude.{◌≡◌, ◌<◌, ◌≤◌, ◌^◌, length};
 ghost use Rattle.mpi_rules.specs.Places as places;
 ghost use Rattle.mpi_rules.specs.Messages as messages;
 ghost use Rattle.mpi_types.specs.Collected as collected;
@@ -25,35 +25,35 @@ pub fn int_at(words: &[u64], i: usize) -> i32
 }
 
 /// A count as a number; a negative one is 0.
-pub fn count_of(count: i32) -> u32
-    ensures value { result ≡ places.count_of count }
+pub fn count_of(count: &i32) -> u32
+    ensures value { result ≡ places.count_of count.now }
     ensures fits { result < 2 ^ 31 }
 {
-    u32::try_from(count).unwrap_or(0)
+    u32::try_from(*count).unwrap_or(0)
 }
 
 /// The number of a byte; one that is no such number is 0.
-pub fn byte_of(number: i32) -> u8
-    ensures { result ≡ places.byte_of number }
+pub fn byte_of(number: &i32) -> u8
+    ensures { result ≡ places.byte_of number.now }
 {
-    u8::try_from(number).unwrap_or(0)
+    u8::try_from(*number).unwrap_or(0)
 }
 
 /// The datatype of a number.
-pub fn datatype_named(number: i32) -> Option<Datatype>
-    ensures { result ≡ places.datatype_named number }
+pub fn datatype_named(number: &i32) -> Option<Datatype>
+    ensures { result ≡ places.datatype_named number.now }
 {
-    match u8::try_from(number) {
+    match u8::try_from(*number) {
         Ok(byte) => Datatype::of_byte(byte),
         Err(_) => None,
     }
 }
 
 /// The operation of a number.
-pub fn operation_named(number: i32) -> Option<Operation>
-    ensures { result ≡ places.operation_named number }
+pub fn operation_named(number: &i32) -> Option<Operation>
+    ensures { result ≡ places.operation_named number.now }
 {
-    match u8::try_from(number) {
+    match u8::try_from(*number) {
         Ok(byte) => Operation::of_byte(byte),
         Err(_) => None,
     }
@@ -71,8 +71,8 @@ pub fn size_of(datatype: Option<Datatype>) -> u32
 }
 
 /// How many bytes so many elements of a datatype have.
-pub fn bytes_of(count: i32, datatype: i32) -> u64
-    ensures value { result ≡ places.bytes_of count datatype }
+pub fn bytes_of(count: &i32, datatype: &i32) -> u64
+    ensures value { result ≡ places.bytes_of count.now datatype.now }
     ensures fits { result < 2 ^ 34 }
 {
     count_of(count) as u64 * size_of(datatype_named(datatype)) as u64

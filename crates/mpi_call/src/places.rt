@@ -1,8 +1,9 @@
 //! A rank's memory as its calls see it: which bytes are accessible, what they hold, and what is written there.
 
-ghost use Rattle.std.specs.Prelude.{◌≡◌, ◌<◌, ◌≤◌, ◌∷◌, [], IsTrue, IfOk, length};
+ghost use Rattle.std.specs.Prelude.{◌≡◌, ◌<◌, ◌≤◌, ◌∷◌, ◌++◌, [], IsTrue, IfOk, OnOk, OnErr, length};
 ghost use Rattle.rank_range.specs.Areas.{areas_of};
 ghost use Rattle.rank_range.specs.Layout.{range_bytes};
+ghost use Rattle.mpi_rules.specs.Messages as messages;
 ghost use Rattle.mpi_rules.specs.Places as places;
 ghost use Rattle.mpi_types.specs.declared.status.Status.{Status};
 
@@ -11,12 +12,20 @@ use mpi_types::{Sequence, Status, Write};
 use rank_range::{BadAddress, Mem, Width, access};
 use std::alloc::{AllocError, Global};
 
-/// Whether the bytes are all in one accessible area.
 #[tactic(auto, unfolding(mpi_rules::specs::Places::is_open))]
-pub fn is_open<M: Mem>(m: &M, a: u64, n: u64) -> bool
-    ensures value { result ≡ places.is_open (areas_of (M.rank_of m.now) (M.top_of m.now) (M.bytes_of m.now)) a n }
+fn is_seen<M: Mem>(m: &M, a: u64, n: u64) -> bool
+    ensures { result ≡ places.is_open (areas_of (M.rank_of m.now) (M.top_of m.now) (M.bytes_of m.now)) a n }
 {
     access::view(m, a, n).is_ok()
+}
+
+/// Whether the bytes are all in one accessible area.
+pub fn is_open<M: Mem>(m: &M, a: u64, n: u64) -> bool
+    ensures value { result ≡ places.is_open (areas_of (M.rank_of m.now) (M.top_of m.now) (M.bytes_of m.now)) a n }
+    ensures small { IsTrue result → n ≤ range_bytes }
+{
+    let _top = m.top();
+    is_seen(m, a, n)
 }
 
 /// The bytes there; none where they aren't accessible.
@@ -42,26 +51,34 @@ pub fn variable<M: Mem>(m: &M, a: u64) -> u32
 }
 
 /// A write of an int alone.
-pub fn int_write(alloc: Global, address: u64, number: i32) -> Result<Sequence<Write>, AllocError>
-    ensures { IfOk result (λ writes. writes ≡ places.int_write address number ∷ []) }
+pub fn int_write(alloc: Global, address: u64, number: &i32) -> Result<Sequence<Write>, AllocError>
+    ensures { IfOk result (λ writes. writes ≡ places.int_write address number.now ∷ []) }
 {
     number_write(alloc, address, number.cast_unsigned())
 }
 
 /// A write of a number of four bytes alone.
-pub fn number_write(alloc: Global, address: u64, number: u32) -> Result<Sequence<Write>, AllocError>
+pub fn number_write(
+    alloc: Global,
+    address: u64,
+    number: u32,
+) -> Result<Sequence<Write>, AllocError>
+    ensures { IfOk result (λ writes. writes ≡ messages.request_write address number ∷ []) }
 {
     let mut writes = Sequence::new(alloc);
     push_number(alloc, &mut writes, address, number)?;
     Ok(writes)
 }
 
+/// A write of a number of four bytes behind others.
 pub fn push_number(
     alloc: Global,
     writes: &mut Sequence<Write>,
     address: u64,
     number: u32,
-) -> Result<(), AllocError> {
+) -> Result<(), AllocError>
+    ensures { OnOk result (writes.new ≡ writes.old ++ messages.request_write address number ∷ []) }
+{
     let bytes = Bytes::from_slice(alloc, &number.to_le_bytes())?;
     writes.push(Write { address, bytes })
 }
@@ -71,7 +88,9 @@ pub fn push_bytes(
     writes: &mut Sequence<Write>,
     address: u64,
     bytes: Bytes,
-) -> Result<(), AllocError> {
+) -> Result<(), AllocError>
+    ensures { OnOk result (writes.new ≡ writes.old ++ places.write_of address bytes) }
+{
     if bytes.is_empty() {
         return Ok(());
     }
@@ -84,7 +103,9 @@ pub fn push_status(
     writes: &mut Sequence<Write>,
     address: u64,
     status: &Status,
-) -> Result<(), AllocError> {
+) -> Result<(), AllocError>
+    ensures { OnOk result (writes.new ≡ writes.old ++ places.status_writes address status.now) }
+{
     if address == 0 {
         return Ok(());
     }
@@ -92,7 +113,9 @@ pub fn push_status(
     writes.push(Write { address, bytes })
 }
 
-fn status_bytes(alloc: Global, status: &Status) -> Result<Bytes, AllocError> {
+fn status_bytes(alloc: Global, status: &Status) -> Result<Bytes, AllocError>
+    ensures { IfOk result (λ bytes. bytes ≡ places.status_bytes status.now) }
+{
     let mut bytes = Bytes::from_slice(alloc, &status.source.cast_unsigned().to_le_bytes())?;
     bytes.append(&status.tag.cast_unsigned().to_le_bytes())?;
     bytes.append(&0u32.to_le_bytes())?;

@@ -1,0 +1,86 @@
+-- What an answer of this crate's calls tells of what the call gives, and what the call leaves.
+use Rattle.std.specs.Prelude.{ℕ, ℤ, ◌≡◌, Option, Some, None, Result, Ok, Err, List}
+use Rattle.collectives.specs.declared.sends.SweepOut.{SweepOut}
+use Rattle.collectives.specs.Sweeps.{Goes, begun}
+use Rattle.mpi_types.specs.declared.argument.Sweep.{Sweep}
+use Rattle.mpi_types.specs.declared.lists.BookLists.{BookLists}
+use Rattle.mpi_types.specs.declared.message.Hit.{Hit}
+use Rattle.mpi_types.specs.declared.message.Posted.{Posted}
+use Rattle.mpi_types.specs.declared.state.OwnData.{OwnData}
+use Rattle.mpi_types.specs.Post.{Posts}
+use Rattle.mpi_rules.specs.declared.given.Joining.{Joining}
+use Rattle.mpi_rules.specs.Data.{MpiData, data_of}
+use Rattle.mpi_rules.specs.Reply.{Given, Reply, Gives, Traps, Ends, NotYet}
+use Rattle.mpi_call.specs.declared.done.CallStop.{CallStop}
+use Rattle.mpi_call.specs.declared.done.CallStop.TheVariants.{Trap, End, Memory}
+use Rattle.mpi_call.specs.declared.done.Done.{Done}
+
+-- What a rank keeps of MPI: its own data, its collectives, and the lists that its book stands for.
+pub record Kept : Type 0 where
+  pub own : OwnData
+  pub sweep : Sweep
+  pub lists : BookLists
+
+abbrev pub kept : OwnData → Sweep → BookLists → Kept
+kept own sweep lists = record { own = own; sweep = sweep; lists = lists }
+
+-- the data by which calls are answered
+abbrev pub data_in : Kept → MpiData
+data_in k = data_of k.own k.sweep k.lists
+
+-- The book posts the receive; where none is posted, its receives are those of the data then. What arrived stays.
+abbrev pub BookGoes : Option Posted → MpiData → BookLists → Option Hit → BookLists → Type 0
+BookGoes None after old hit new =
+    (hit ≡ None) × (new ≡ record { posted = after.posted; matched = after.matched; arrived = old.arrived })
+BookGoes (Some receive) after old hit new = Posts old receive hit new
+
+-- The rank joins the collective; where it joins none, what it has joined is that of the data then. The messages of the tree
+-- stay.
+abbrev pub Joins : Joining → Sweep → Option SweepOut → Sweep → Type 0
+Joins j old None new = ⊥
+Joins j old (Some out) new = Goes (begun j.group j.position j.arg old) new out
+
+abbrev pub SweepGoes : Option Joining → MpiData → Sweep → Option SweepOut → Sweep → Type 0
+SweepGoes None after old out new = (out ≡ None) × (new ≡ record { joined = after.joined; tree = old.tree })
+SweepGoes (Some j) after old out new = Joins j old out new
+
+-- what is done is what the call gives
+pub record IsGiven (given : Given) (done : Done) (old new : Kept) : Type 0 where
+  pub answer : done.answer ≡ given.answer
+  pub writes : done.writes ≡ given.writes
+  pub send : done.send ≡ given.send
+  pub own_is : new.own ≡ given.after.own
+  pub book : BookGoes given.post given.after old.lists done.hit new.lists
+  pub sweep : SweepGoes given.join given.after old.sweep done.sweep new.sweep
+
+abbrev pub DoesGive : Reply → Done → Kept → Kept → Type 0
+DoesGive (Gives given) done old new = IsGiven given done old new
+DoesGive (Traps why) done old new = ⊥
+DoesGive (Ends status) done old new = ⊥
+DoesGive NotYet done old new = ⊥
+
+-- A call that stops leaves everything as it was. Want of memory tells nothing.
+abbrev pub Stops : Reply → CallStop → Kept → Kept → Type 0
+Stops reply (Trap why) old new = (reply ≡ Traps why) × (new ≡ old)
+Stops reply (End status) old new = (reply ≡ Ends status) × (new ≡ old)
+Stops reply Memory old new = Unit {0}
+
+-- what a call does is what is said of it
+abbrev pub Does : Reply → Kept → Result Done CallStop → Kept → Type 0
+Does reply old (Ok done) new = DoesGive reply done old new
+Does reply old (Err stop) new = Stops reply stop old new
+
+-- the same of a call that may have to wait
+abbrev pub MayGive : Reply → Option Done → Kept → Kept → Type 0
+MayGive reply None old new = (reply ≡ NotYet) × (new ≡ old)
+MayGive reply (Some done) old new = DoesGive reply done old new
+
+abbrev pub MayDo : Reply → Kept → Result (Option Done) CallStop → Kept → Type 0
+MayDo reply old (Ok done) new = MayGive reply done old new
+MayDo reply old (Err stop) new = Stops reply stop old new
+
+-- A receive takes a request: what it leads to, whatever its call answers and writes.
+pub record Received (given : Given) (old : Kept) (hit : Option Hit) (new : Kept) : Type 0 where
+  pub own_is : new.own ≡ given.after.own
+  pub book : BookGoes given.post given.after old.lists hit new.lists
+  pub sweep : new.sweep ≡ old.sweep

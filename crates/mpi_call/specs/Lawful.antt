@@ -1,0 +1,18 @@
+-- The state in which a call may be made.
+use Rattle.std.specs.Prelude.{ℕ, ◌+◌, ◌^◌, ◌<◌, ◌≤◌, length, All}
+use Rattle.mpi_types.specs.declared.lists.BookLists.{BookLists}
+use Rattle.mpi_types.specs.declared.state.OwnData.{OwnData}
+use Rattle.mpi_types.specs.Book.{IsNext}
+
+-- how many ranks there may be
+abbrev pub most_ranks : ℕ
+most_ranks = 256
+
+-- no communicator has more members than there may be ranks
+pub record AreSized (own : OwnData) : Type 0 where
+  pub members : All (λ c. length c.group.members ≤ most_ranks) own.communicators
+
+-- One more request may be taken: its number fits, and is greater than that of every live receive.
+pub record MayTake (own : OwnData) (lists : BookLists) : Type 0 where
+  pub fits : own.next + 1 < 2 ^ 32
+  pub next : IsNext lists own.next
