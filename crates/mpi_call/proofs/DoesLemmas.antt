@@ -189,3 +189,16 @@ no_buffer f h =
     last_none f.buffer _ (rest_none f.tag _ _ (rest_none f.rank _ _ (rest_none f.root _ _ (rest_none f.operation _ _
     (rest_none f.datatype _ _ (rest_none f.count _ _ (rest_none f.request _ _ (rest_none f.variable _ _ (rest_none f.comm _ _
     (rest_none f.handle _ _ (rest_none f.other _ _ h)))))))))))
+
+front_none : (b : Bool) (why : TrapCause) (o : Option TrapCause) → None ≡ cond b (Some why) o → b ≡ false
+front_none true why o h = absurd cc
+front_none false why o h = refl
+
+pub no_variable : (f : Faults) → None ≡ cause_of f → f.variable ≡ false
+unfolding cause_of
+no_variable f h = front_none f.variable _ _ (rest_none f.comm _ _ (rest_none f.handle _ _ (rest_none f.other _ _ h)))
+
+pub no_request : (f : Faults) → None ≡ cause_of f → f.request ≡ false
+unfolding cause_of
+no_request f h =
+    front_none f.request _ _ (rest_none f.variable _ _ (rest_none f.comm _ _ (rest_none f.handle _ _ (rest_none f.other _ _ h))))

@@ -66,3 +66,9 @@ pub none_or : {X Y : Type 0} (f : X → Y) (kind : Option Y) (o : Option X) (b c
     → b ≡ (is_some o || c)
 none_or f kind None b c is empty same = same
 none_or f kind (Some x) b c is empty same = absurd (none_some kind (f x) is empty)
+
+-- a live request that isn't complete is live in the book
+pub live_in_book : {X Y : Type 0} (f : X → Y) (kind : Option Y) (o : Option X) (b : Bool) → kind ≡ option_map f o → kind ≡ None
+    → (is_some o || b) ≡ true → b ≡ true
+live_in_book f kind None b is none live = live
+live_in_book f kind (Some x) b is none live = absurd cc

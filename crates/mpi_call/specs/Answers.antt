@@ -10,6 +10,7 @@ use Rattle.mpi_types.specs.declared.state.OwnData.{OwnData}
 use Rattle.mpi_types.specs.Post.{Posts}
 use Rattle.mpi_rules.specs.declared.given.Joining.{Joining}
 use Rattle.mpi_rules.specs.Data.{MpiData, data_of}
+use Rattle.mpi_rules.specs.Requests.{Came}
 use Rattle.mpi_rules.specs.Reply.{Given, Reply, Gives, Traps, Ends, NotYet}
 use Rattle.mpi_call.specs.declared.done.CallStop.{CallStop}
 use Rattle.mpi_call.specs.declared.done.CallStop.TheVariants.{Trap, End, Memory}
@@ -84,3 +85,10 @@ pub record Received (given : Given) (old : Kept) (hit : Option Hit) (new : Kept)
   pub own_is : new.own ≡ given.after.own
   pub book : BookGoes given.post given.after old.lists hit new.lists
   pub sweep : new.sweep ≡ old.sweep
+
+-- A request ends: these are the bytes that came, and the data then.
+pub record Took (came : Came) (after : MpiData) (old : Kept) (body : List ℕ) (new : Kept) : Type 0 where
+  pub body_is : body ≡ came.body
+  pub own_is : new.own ≡ after.own
+  pub lists_are : new.lists ≡ record { posted = after.posted; matched = after.matched; arrived = old.lists.arrived }
+  pub sweep_is : new.sweep ≡ old.sweep

@@ -1,8 +1,9 @@
 -- The state in which a call may be made.
-use Rattle.std.specs.Prelude.{ℕ, ◌+◌, ◌^◌, ◌<◌, ◌≤◌, length, All}
+use Rattle.std.specs.Prelude.{ℕ, ◌≡◌, ◌+◌, ◌^◌, ◌<◌, ◌≤◌, true, is_some, length, All}
 use Rattle.mpi_types.specs.declared.lists.BookLists.{BookLists}
 use Rattle.mpi_types.specs.declared.state.OwnData.{OwnData}
-use Rattle.mpi_types.specs.Book.{IsNext}
+use Rattle.mpi_types.specs.Book.{IsLive, IsNext, IsOrderly}
+use Rattle.mpi_rules.specs.Data.{complete_of}
 
 -- how many ranks there may be
 abbrev pub most_ranks : ℕ
@@ -16,3 +17,8 @@ pub record AreSized (own : OwnData) : Type 0 where
 pub record MayTake (own : OwnData) (lists : BookLists) : Type 0 where
   pub fits : own.next + 1 < 2 ^ 32
   pub next : IsNext lists own.next
+
+-- The requests of a rank: those of its book stand in order, and no complete one is live in the book.
+pub record AreApart (own : OwnData) (lists : BookLists) : Type 0 where
+  pub orderly : IsOrderly lists
+  pub apart : (n : ℕ) → is_some (complete_of n own.complete) ≡ true → IsLive lists n → ⊥

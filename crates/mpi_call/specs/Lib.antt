@@ -1,2 +1,6 @@
 pub mod Answers
 pub mod Lawful
+pub mod Written
+pub mod Sizes
+pub mod Parts
+pub mod Held

@@ -2,10 +2,13 @@
 #![tactic(auto)]
 
 mod done;
+mod ending;
 mod messages;
 mod numbers;
 mod own;
 mod places;
+mod requests;
 mod state;
+mod waits;
 
 pub use done::{Began, CallStop, Finished};

@@ -67,7 +67,7 @@ pub fn finalize<B: MatchBook>(alloc: Global, st: &mut MpiState<B>) -> Result<Don
 }
 
 /// The int is written, where that may be.
-fn told<M: Mem>(alloc: Global, m: &M, to: u64, number: u32) -> Result<Done, CallStop>
+pub fn told<M: Mem>(alloc: Global, m: &M, to: u64, number: u32) -> Result<Done, CallStop>
     ensures { (k : Kept) → Does (reply_words.answered (areas_of (M.rank_of m.now) (M.top_of m.now) (M.bytes_of m.now)) (reply_words.writing (data_in k) (places.int_write to (pos number) ∷ []))) k result k }
 {
     if !is_open(m, to, 4) {

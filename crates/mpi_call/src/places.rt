@@ -5,7 +5,7 @@ ghost use Rattle.rank_range.specs.Areas.{areas_of};
 ghost use Rattle.rank_range.specs.Layout.{range_bytes};
 ghost use Rattle.mpi_rules.specs.Messages as messages;
 ghost use Rattle.mpi_rules.specs.Places as places;
-ghost use Rattle.mpi_types.specs.declared.status.Status.{Status};
+ghost use Rattle.mpi_call.specs.Written.{Leaves};
 
 use am_base::Bytes;
 use mpi_types::{Sequence, Status, Write};
@@ -123,12 +123,21 @@ fn status_bytes(alloc: Global, status: &Status) -> Result<Bytes, AllocError>
     Ok(bytes)
 }
 
-/// Writes one after another; one that isn't accessible changes nothing.
-pub fn write_all<M: Mem>(m: &mut M, writes: &[Write]) {
+/// Writes the bytes; where that may not be, nothing changes.
+fn write_one<M: Mem>(m: &mut M, a: u64, bytes: &[u8])
+    ensures areas { areas_of (M.rank_of m.new) (M.top_of m.new) (M.bytes_of m.new) ≡ places.written_one (areas_of (M.rank_of m.old) (M.top_of m.old) (M.bytes_of m.old)) a bytes.now }
+    ensures leaves { Leaves (M.rank_of m.old) (M.rank_of m.new) (M.top_of m.old) (M.top_of m.new) (M.bytes_of m.old) (M.bytes_of m.new) (M.marks_of m.old) (M.marks_of m.new) }
+{
+    let _top = m.top();
+    let _done = m.write(a, bytes);
+}
+
+/// Writes one after another; one that may not be changes nothing.
+pub fn write_all<M: Mem>(m: &mut M, writes: &[Write])
+    ensures areas { areas_of (M.rank_of m.new) (M.top_of m.new) (M.bytes_of m.new) ≡ places.written (areas_of (M.rank_of m.old) (M.top_of m.old) (M.bytes_of m.old)) writes.now }
+    ensures leaves { Leaves (M.rank_of m.old) (M.rank_of m.new) (M.top_of m.old) (M.top_of m.new) (M.bytes_of m.old) (M.bytes_of m.new) (M.marks_of m.old) (M.marks_of m.new) }
+{
     for write in writes {
-        match access::write(m, write.address, write.bytes.as_slice()) {
-            Ok(()) => {}
-            Err(BadAddress) => {}
-        }
+        write_one(m, write.address, write.bytes.as_slice());
     }
 }

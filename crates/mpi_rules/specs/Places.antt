@@ -85,7 +85,11 @@ status_writes a s = if a == 0 then [] else write_at a (status_bytes s) ∷ []
 abbrev pub are_open : Areas → List Write → Bool
 are_open areas writes = list_all (λ w. is_open areas w.address (length w.bytes)) writes
 
--- the areas after writes, one after another; one that isn't accessible changes nothing
+-- the areas after a write; one that isn't accessible changes nothing
+unfoldable pub written_one : Areas → ℕ → List ℕ → Areas
+written_one areas a bytes = unwrap_or (with_bytes_at areas a bytes) areas
+
+-- the same of writes, one after another
 unfoldable pub written : Areas → List Write → Areas
 written areas [] = areas
-written areas (w ∷ writes) = written (unwrap_or (with_bytes_at areas w.address w.bytes) areas) writes
+written areas (w ∷ writes) = written (written_one areas w.address w.bytes) writes
