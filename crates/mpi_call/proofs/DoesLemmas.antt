@@ -202,3 +202,9 @@ pub no_request : (f : Faults) → None ≡ cause_of f → f.request ≡ false
 unfolding cause_of
 no_request f h =
     front_none f.request _ _ (rest_none f.variable _ _ (rest_none f.comm _ _ (rest_none f.handle _ _ (rest_none f.other _ _ h))))
+
+pub no_datatype : (f : Faults) → None ≡ cause_of f → f.datatype ≡ false
+unfolding cause_of
+no_datatype f h =
+    front_none f.datatype _ _ (rest_none f.count _ _ (rest_none f.request _ _ (rest_none f.variable _ _ (rest_none f.comm _ _
+    (rest_none f.handle _ _ (rest_none f.other _ _ h))))))

@@ -6,3 +6,4 @@ pub mod WriteLemmas
 pub mod PairLemmas
 pub mod TakeLemmas
 pub mod EndLemmas
+pub mod CountLemmas

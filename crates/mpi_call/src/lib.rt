@@ -1,8 +1,10 @@
 //! The calls of MPI on one rank: what is wrong with a call, what it gives, and what it leaves (MPI 3.1).
 #![tactic(auto)]
 
+mod counts;
 mod done;
 mod ending;
+mod joining;
 mod messages;
 mod numbers;
 mod own;
