@@ -208,3 +208,7 @@ unfolding cause_of
 no_datatype f h =
     front_none f.datatype _ _ (rest_none f.count _ _ (rest_none f.request _ _ (rest_none f.variable _ _ (rest_none f.comm _ _
     (rest_none f.handle _ _ (rest_none f.other _ _ h))))))
+
+pub no_comm : (f : Faults) → None ≡ cause_of f → f.comm ≡ false
+unfolding cause_of
+no_comm f h = front_none f.comm _ _ (rest_none f.handle _ _ (rest_none f.other _ _ h))

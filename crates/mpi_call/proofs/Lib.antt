@@ -7,3 +7,4 @@ pub mod PairLemmas
 pub mod TakeLemmas
 pub mod EndLemmas
 pub mod CountLemmas
+pub mod JoinLemmas

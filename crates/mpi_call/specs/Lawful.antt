@@ -3,7 +3,7 @@ use Rattle.std.specs.Prelude.{ℕ, ◌≡◌, ◌+◌, ◌^◌, ◌<◌, ◌≤�
 use Rattle.mpi_types.specs.declared.lists.BookLists.{BookLists}
 use Rattle.mpi_types.specs.declared.state.OwnData.{OwnData}
 use Rattle.mpi_types.specs.Book.{IsLive, IsNext, IsOrderly}
-use Rattle.mpi_rules.specs.Data.{complete_of}
+use Rattle.mpi_rules.specs.Data.{complete_of, place_among}
 
 -- how many ranks there may be
 abbrev pub most_ranks : ℕ
@@ -22,3 +22,8 @@ pub record MayTake (own : OwnData) (lists : BookLists) : Type 0 where
 pub record AreApart (own : OwnData) (lists : BookLists) : Type 0 where
   pub orderly : IsOrderly lists
   pub apart : (n : ℕ) → is_some (complete_of n own.complete) ≡ true → IsLive lists n → ⊥
+
+-- Each communicator has the rank as a member, and its next collective's position fits.
+pub record MayJoin (rank : ℕ) (own : OwnData) : Type 0 where
+  pub member : All (λ c. place_among rank c.group.members < length c.group.members) own.communicators
+  pub position : All (λ c. c.position + 1 < 2 ^ 32) own.communicators

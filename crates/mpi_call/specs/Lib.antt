@@ -4,3 +4,4 @@ pub mod Written
 pub mod Sizes
 pub mod Parts
 pub mod Held
+pub mod Counts

@@ -1,6 +1,6 @@
 //! What a rank joins a collective with, and what is wrong with it.
 
-ghost use Rattle.std.specs.Prelude.{◌≡◌, ◌<◌, ◌≤◌, ◌+◌, ◌^◌, ◌==◌, ◌&&◌, not, length};
+ghost use Rattle.std.specs.Prelude.{◌≡◌, ◌<◌, ◌≤◌, ◌+◌, ◌^◌, ◌==◌, ◌&&◌, not, pos, length};
 ghost use Rattle.mpi_rules.specs.Collectives as words;
 ghost use Rattle.mpi_types.specs.Collected as collected;
 ghost use Rattle.mpi_call.specs.Lawful.{most_ranks};
@@ -9,7 +9,7 @@ use crate::numbers::{bytes_of, datatype_named, int_at, operation_named};
 use mpi_rules::{CollectiveArgs, CommFacts, Elements};
 use mpi_types::{Collective, OwnData, UNDEFINED};
 
-fn elements_from(values: &[u64], i: usize) -> Elements
+pub fn elements_from(values: &[u64], i: usize) -> Elements
     requires { i + 2 < length values.now }
     ensures { result ≡ words.elements_from values.now i }
 {
@@ -20,7 +20,7 @@ fn elements_from(values: &[u64], i: usize) -> Elements
     }
 }
 
-fn no_elements() -> Elements
+pub fn no_elements() -> Elements
     ensures { result ≡ words.no_elements }
 {
     Elements {
@@ -30,13 +30,9 @@ fn no_elements() -> Elements
     }
 }
 
-fn plain_args(
-    kind: Collective,
-    sent: Elements,
-    received: Elements,
-    comm: &i32,
-) -> CollectiveArgs
-    ensures { result ≡ words.plain_args kind sent received comm.now }
+/// Arguments that have nothing but what is sent and received.
+pub fn plain_args(kind: Collective, sent: Elements, received: Elements) -> CollectiveArgs
+    ensures { result ≡ words.plain_args kind sent received (pos 0) }
 {
     CollectiveArgs {
         kind,
@@ -46,7 +42,7 @@ fn plain_args(
         root: 0,
         colour: 0,
         key: 0,
-        comm: *comm,
+        comm: 0,
         made: 0,
     }
 }

@@ -2,9 +2,11 @@
 #![tactic(auto)]
 
 mod counts;
+mod decoding;
 mod done;
 mod ending;
 mod joining;
+mod joins;
 mod messages;
 mod numbers;
 mod own;
