@@ -2,7 +2,11 @@
 use Rattle.std.specs.Prelude.{ℕ, ℤ, ◌≡◌, Option, Some, None, Result, Ok, Err, List}
 use Rattle.collectives.specs.declared.sends.SweepOut.{SweepOut}
 use Rattle.collectives.specs.Sweeps.{Goes, begun}
+use Rattle.rank_range.specs.declared.run.CallOut.{CallOut}
+use Rattle.rank_range.specs.Areas.{Areas}
 use Rattle.mpi_types.specs.declared.argument.Sweep.{Sweep}
+use Rattle.mpi_types.specs.declared.call.Call.{Call}
+use Rattle.mpi_types.specs.declared.call.Write.{Write}
 use Rattle.mpi_types.specs.declared.lists.BookLists.{BookLists}
 use Rattle.mpi_types.specs.declared.message.Hit.{Hit}
 use Rattle.mpi_types.specs.declared.message.Posted.{Posted}
@@ -11,7 +15,9 @@ use Rattle.mpi_types.specs.Post.{Posts}
 use Rattle.mpi_rules.specs.declared.given.Joining.{Joining}
 use Rattle.mpi_rules.specs.Data.{MpiData, data_of}
 use Rattle.mpi_rules.specs.Requests.{Came}
+use Rattle.mpi_rules.specs.Places.{written}
 use Rattle.mpi_rules.specs.Reply.{Given, Reply, Gives, Traps, Ends, NotYet}
+use Rattle.mpi_call.specs.declared.done.Began.{Began}
 use Rattle.mpi_call.specs.declared.done.CallStop.{CallStop}
 use Rattle.mpi_call.specs.declared.done.CallStop.TheVariants.{Trap, End, Memory}
 use Rattle.mpi_call.specs.declared.done.Done.{Done}
@@ -92,3 +98,27 @@ pub record Took (came : Came) (after : MpiData) (old : Kept) (body : List ℕ) (
   pub own_is : new.own ≡ after.own
   pub lists_are : new.lists ≡ record { posted = after.posted; matched = after.matched; arrived = old.lists.arrived }
   pub sweep_is : new.sweep ≡ old.sweep
+
+-- ---- the calls of this crate
+
+abbrev pub call_of : CallOut → Call
+call_of c = record { name = c.call; args = c.arguments; second = c.second }
+
+-- what began, with what was written
+abbrev pub done_of : Began → List Write → Done
+done_of began writes = record { answer = began.answer; writes = writes; send = began.send; hit = began.hit; sweep = began.sweep }
+
+-- What began is what the call gives, and its bytes are written.
+pub record IsBegun (given : Given) (began : Began) (old new : Kept) (before after : Areas) : Type 0 where
+  pub given_is : IsGiven given (done_of began given.writes) old new
+  pub memory : after ≡ written before given.writes
+
+abbrev pub BeginsBy : Reply → Began → Kept → Kept → Areas → Areas → Type 0
+BeginsBy (Gives given) began old new before after = IsBegun given began old new before after
+BeginsBy (Traps why) began old new before after = ⊥
+BeginsBy (Ends status) began old new before after = ⊥
+BeginsBy NotYet began old new before after = ⊥
+
+abbrev pub Begins : Reply → Result Began CallStop → Kept → Kept → Areas → Areas → Type 0
+Begins reply (Ok began) old new before after = BeginsBy reply began old new before after
+Begins reply (Err stop) old new before after = Stops reply stop old new

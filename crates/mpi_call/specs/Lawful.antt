@@ -1,5 +1,6 @@
 -- The state in which a call may be made.
-use Rattle.std.specs.Prelude.{ℕ, ◌≡◌, ◌+◌, ◌^◌, ◌<◌, ◌≤◌, true, is_some, length, All}
+use Rattle.std.specs.Prelude.{ℕ, ◌≡◌, ◌+◌, ◌^◌, ◌<◌, ◌≤◌, true, None, is_some, length, All}
+use Rattle.mpi_types.specs.declared.argument.Sweep.{Sweep}
 use Rattle.mpi_types.specs.declared.lists.BookLists.{BookLists}
 use Rattle.mpi_types.specs.declared.state.OwnData.{OwnData}
 use Rattle.mpi_types.specs.Book.{IsLive, IsNext, IsOrderly}
@@ -27,3 +28,10 @@ pub record AreApart (own : OwnData) (lists : BookLists) : Type 0 where
 pub record MayJoin (rank : ℕ) (own : OwnData) : Type 0 where
   pub member : All (λ c. place_among rank c.group.members < length c.group.members) own.communicators
   pub position : All (λ c. c.position + 1 < 2 ^ 32) own.communicators
+
+-- The state in which a rank may begin a call: with the call's arguments, and nothing joined.
+pub record MayBegin (rank : ℕ) (own : OwnData) (sweep : Sweep) (lists : BookLists) : Type 0 where
+  pub sized : AreSized own
+  pub join : MayJoin rank own
+  pub take : MayTake own lists
+  pub idle : sweep.joined ≡ None

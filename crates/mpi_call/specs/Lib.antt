@@ -5,3 +5,4 @@ pub mod Sizes
 pub mod Parts
 pub mod Held
 pub mod Counts
+pub mod Served

@@ -1,6 +1,7 @@
 //! The calls of MPI on one rank: what is wrong with a call, what it gives, and what it leaves (MPI 3.1).
 #![tactic(auto)]
 
+mod begins;
 mod counts;
 mod decoding;
 mod done;
@@ -15,4 +16,5 @@ mod requests;
 mod state;
 mod waits;
 
+pub use begins::begin;
 pub use done::{Began, CallStop, Finished};
