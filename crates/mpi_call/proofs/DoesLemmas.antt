@@ -3,6 +3,7 @@ use Rattle.std.proofs.Common.{◌≡◌, ℕ, ℤ, pos, Bool, true, false, not, 
 use Rattle.am_base.specs.declared.traps.TrapCause.{TrapCause}
 use Rattle.am_base.specs.declared.traps.TrapCause.TheVariants.{BadAddress}
 use Rattle.rank_range.specs.Areas.{Areas}
+use Rattle.std.specs.Prelude.{IfSome}
 use Rattle.std.specs.Ordering.{int_eq}
 use Rattle.mpi_types.specs.declared.argument.Joined.{Joined}
 use Rattle.mpi_types.specs.declared.argument.Sweep.{Sweep}
@@ -14,17 +15,17 @@ use Rattle.mpi_types.specs.declared.state.OwnData.{OwnData}
 use Rattle.mpi_rules.specs.declared.faults.Faults.{Faults}
 use Rattle.mpi_rules.specs.declared.faults.LateFaults.{LateFaults}
 use Rattle.mpi_rules.specs.Faults.{cause_of, late_cause_of}
-use Rattle.mpi_rules.specs.Places.{is_open, are_open, int_write}
+use Rattle.mpi_rules.specs.Places.{is_open, are_open, int_write, written}
 use Rattle.mpi_rules.specs.declared.arguments.MessageArgs.{MessageArgs}
 use Rattle.mpi_rules.specs.declared.given.Joining.{Joining}
 use Rattle.mpi_rules.specs.declared.given.SendOut.{SendOut}
 use Rattle.mpi_rules.specs.Data.{MpiData}
 use Rattle.mpi_rules.specs.Messages.{receiving, own_with_complete, own_with_next, post_of}
-use Rattle.mpi_rules.specs.Reply.{Given, quiet, Reply, Gives, Traps, unless, checked, ended, late_address, answered, writing, with_own}
+use Rattle.mpi_rules.specs.Reply.{Given, quiet, Reply, Gives, Traps, Ends, NotYet, unless, checked, ended, late_address, answered, writing, with_own}
 use Rattle.mpi_call.specs.declared.done.CallStop.{CallStop}
 use Rattle.mpi_call.specs.declared.done.CallStop.TheVariants.{Trap}
 use Rattle.mpi_call.specs.declared.done.Done.{Done}
-use Rattle.mpi_call.specs.Answers.{Kept, kept, data_in, IsGiven, Does, Stops, SweepGoes, Received}
+use Rattle.mpi_call.specs.Answers.{Kept, kept, data_in, IsGiven, IsQuiet, ended_done, Does, DoesGive, EndsBy, MayGive, Stops, SweepGoes, Received}
 
 unless_traps : (o : Option TrapCause) (r : Reply) (why : TrapCause) → o ≡ Some why → unless o r ≡ Traps why
 unless_traps None r why is = cc
@@ -212,3 +213,21 @@ no_datatype f h =
 pub no_comm : (f : Faults) → None ≡ cause_of f → f.comm ≡ false
 unfolding cause_of
 no_comm f h = front_none f.comm _ _ (rest_none f.handle _ _ (rest_none f.other _ _ h))
+
+-- a call that has ended, once its bytes are written
+pub ended_by : (r : Reply) (done : Done) (old new : Kept) (before after : Areas) → DoesGive r done old new → IsQuiet done
+    → after ≡ written before done.writes → EndsBy r (pos 0) old new before after
+ended_by (Gives given) done old new before after h is memory =
+    record {
+      given_is = subst (λ (d : Done). IsGiven given d old new) (is ∙ ap (ended_done (pos 0)) h.writes) h;
+      memory = memory ∙ ap (written before) h.writes;
+    }
+ended_by (Traps why) done old new before after h is memory = h
+ended_by (Ends status) done old new before after h is memory = h
+ended_by NotYet done old new before after h is memory = h
+
+pub given_some : (r : Reply) (o : Option Done) (done : Done) (old new : Kept) → o ≡ Some done → MayGive r o old new → DoesGive r done old new
+given_some r o done old new is h = subst (λ (x : Option Done). MayGive r x old new) is h
+
+pub quiet_some : (o : Option Done) (done : Done) → o ≡ Some done → IfSome o (λ d. IsQuiet d) → IsQuiet done
+quiet_some o done is h = subst (λ (x : Option Done). IfSome x (λ d. IsQuiet d)) is h

@@ -8,3 +8,4 @@ pub mod TakeLemmas
 pub mod EndLemmas
 pub mod CountLemmas
 pub mod JoinLemmas
+pub mod NumberLemmas

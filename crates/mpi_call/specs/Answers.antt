@@ -1,5 +1,5 @@
 -- What an answer of this crate's calls tells of what the call gives, and what the call leaves.
-use Rattle.std.specs.Prelude.{ℕ, ℤ, ◌≡◌, Option, Some, None, Result, Ok, Err, List}
+use Rattle.std.specs.Prelude.{ℕ, ℤ, pos, ◌≡◌, Option, Some, None, Result, Ok, Err, List}
 use Rattle.collectives.specs.declared.sends.SweepOut.{SweepOut}
 use Rattle.collectives.specs.Sweeps.{Goes, begun}
 use Rattle.rank_range.specs.declared.run.CallOut.{CallOut}
@@ -21,6 +21,8 @@ use Rattle.mpi_call.specs.declared.done.Began.{Began}
 use Rattle.mpi_call.specs.declared.done.CallStop.{CallStop}
 use Rattle.mpi_call.specs.declared.done.CallStop.TheVariants.{Trap, End, Memory}
 use Rattle.mpi_call.specs.declared.done.Done.{Done}
+use Rattle.mpi_call.specs.declared.done.Finished.{Finished}
+use Rattle.mpi_call.specs.declared.done.Finished.TheVariants.{Answered, NotYet as Waiting}
 
 -- What a rank keeps of MPI: its own data, its collectives, and the lists that its book stands for.
 pub record Kept : Type 0 where
@@ -122,3 +124,30 @@ BeginsBy NotYet began old new before after = ⊥
 abbrev pub Begins : Reply → Result Began CallStop → Kept → Kept → Areas → Areas → Type 0
 Begins reply (Ok began) old new before after = BeginsBy reply began old new before after
 Begins reply (Err stop) old new before after = Stops reply stop old new
+
+-- What ended is what the call gives, and its bytes are written: it sends, posts and joins nothing. A call that can't be answered
+-- yet changes nothing.
+abbrev pub ended_done : ℤ → List Write → Done
+ended_done answer writes = record { answer = Some answer; writes = writes; send = None; hit = None; sweep = None }
+
+-- the call answers 0, and does nothing but write
+abbrev pub IsQuiet : Done → Type 0
+IsQuiet done = done ≡ ended_done (pos 0) done.writes
+
+pub record IsEnded (given : Given) (answer : ℤ) (old new : Kept) (before after : Areas) : Type 0 where
+  pub given_is : IsGiven given (ended_done answer given.writes) old new
+  pub memory : after ≡ written before given.writes
+
+abbrev pub EndsBy : Reply → ℤ → Kept → Kept → Areas → Areas → Type 0
+EndsBy (Gives given) answer old new before after = IsEnded given answer old new before after
+EndsBy (Traps why) answer old new before after = ⊥
+EndsBy (Ends status) answer old new before after = ⊥
+EndsBy NotYet answer old new before after = ⊥
+
+abbrev pub FinishesBy : Reply → Finished → Kept → Kept → Areas → Areas → Type 0
+FinishesBy reply (Answered answer) old new before after = EndsBy reply answer old new before after
+FinishesBy reply Waiting old new before after = (reply ≡ NotYet) × (new ≡ old) × (after ≡ before)
+
+abbrev pub Finishes : Reply → Result Finished CallStop → Kept → Kept → Areas → Areas → Type 0
+Finishes reply (Ok finished) old new before after = FinishesBy reply finished old new before after
+Finishes reply (Err stop) old new before after = Stops reply stop old new

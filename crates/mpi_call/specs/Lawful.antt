@@ -1,10 +1,12 @@
 -- The state in which a call may be made.
-use Rattle.std.specs.Prelude.{ℕ, ◌≡◌, ◌+◌, ◌^◌, ◌<◌, ◌≤◌, true, None, is_some, length, All}
+use Rattle.std.specs.Prelude.{ℕ, ◌≡◌, ◌+◌, ◌-◌, ◌^◌, ◌<◌, ◌≤◌, true, None, is_some, length, All}
+use Rattle.am_base.specs.declared.calls.MpiCall.{MpiCall}
 use Rattle.mpi_types.specs.declared.argument.Sweep.{Sweep}
 use Rattle.mpi_types.specs.declared.lists.BookLists.{BookLists}
 use Rattle.mpi_types.specs.declared.state.OwnData.{OwnData}
 use Rattle.mpi_types.specs.Book.{IsLive, IsNext, IsOrderly}
-use Rattle.mpi_rules.specs.Data.{complete_of, place_among}
+use Rattle.mpi_rules.specs.Data.{complete_of, data_of, is_live, place_among}
+use Rattle.mpi_call.specs.Served.{is_receive}
 
 -- how many ranks there may be
 abbrev pub most_ranks : ℕ
@@ -35,3 +37,10 @@ pub record MayBegin (rank : ℕ) (own : OwnData) (sweep : Sweep) (lists : BookLi
   pub join : MayJoin rank own
   pub take : MayTake own lists
   pub idle : sweep.joined ≡ None
+
+-- The state in which a rank may end a call. Before the second tick of a receive its request is live, directly below the next
+-- number.
+pub record MayFinish (call : MpiCall) (own : OwnData) (sweep : Sweep) (lists : BookLists) : Type 0 where
+  pub apart : AreApart own lists
+  pub some : is_receive call ≡ true → 1 < own.next
+  pub live : is_receive call ≡ true → is_live (data_of own sweep lists) (own.next - 1) ≡ true

@@ -6,3 +6,4 @@ pub mod Parts
 pub mod Held
 pub mod Counts
 pub mod Served
+pub mod Numbers

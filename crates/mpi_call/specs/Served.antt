@@ -63,3 +63,65 @@ is_collective call.Scatter = true
 is_collective call.Allgather = true
 is_collective call.Alltoall = true
 is_collective call.Migrate = true
+
+-- Which calls `finish` serves: the second tick of a receive, Wait and Test.
+abbrev pub is_finished : MpiCall → Bool
+is_finished call.Recv = true
+is_finished call.Wait = true
+is_finished call.Test = true
+is_finished call.Waitall = false
+is_finished call.Init = false
+is_finished call.Initialized = false
+is_finished call.Finalized = false
+is_finished call.Finalize = false
+is_finished call.CommRank = false
+is_finished call.CommSize = false
+is_finished call.CommDup = false
+is_finished call.CommSplit = false
+is_finished call.CommFree = false
+is_finished call.Abort = false
+is_finished call.Send = false
+is_finished call.Isend = false
+is_finished call.Irecv = false
+is_finished call.GetCount = false
+is_finished call.Barrier = false
+is_finished call.Bcast = false
+is_finished call.Reduce = false
+is_finished call.Allreduce = false
+is_finished call.Scan = false
+is_finished call.Gather = false
+is_finished call.Scatter = false
+is_finished call.Allgather = false
+is_finished call.Alltoall = false
+is_finished call.Migrate = false
+
+-- it is a receive, whose second tick it is
+abbrev pub is_receive : MpiCall → Bool
+is_receive call.Recv = true
+is_receive call.Wait = false
+is_receive call.Test = false
+is_receive call.Waitall = false
+is_receive call.Init = false
+is_receive call.Initialized = false
+is_receive call.Finalized = false
+is_receive call.Finalize = false
+is_receive call.CommRank = false
+is_receive call.CommSize = false
+is_receive call.CommDup = false
+is_receive call.CommSplit = false
+is_receive call.CommFree = false
+is_receive call.Abort = false
+is_receive call.Send = false
+is_receive call.Isend = false
+is_receive call.Irecv = false
+is_receive call.GetCount = false
+is_receive call.Barrier = false
+is_receive call.Bcast = false
+is_receive call.Reduce = false
+is_receive call.Allreduce = false
+is_receive call.Scan = false
+is_receive call.Gather = false
+is_receive call.Scatter = false
+is_receive call.Allgather = false
+is_receive call.Alltoall = false
+is_receive call.Migrate = false

@@ -7,7 +7,7 @@ ghost use Rattle.mpi_rules.specs.Data as data_words;
 ghost use Rattle.mpi_rules.specs.Places as places;
 ghost use Rattle.mpi_rules.specs.Requests as words;
 ghost use Rattle.mpi_rules.specs.Requests.{Came};
-ghost use Rattle.mpi_call.specs.Answers.{kept, data_in, Does, Took};
+ghost use Rattle.mpi_call.specs.Answers.{kept, data_in, Does, IsQuiet, Took};
 ghost use Rattle.mpi_call.specs.Lawful.{AreApart};
 ghost use Rattle.mpi_call.specs.Parts.{variable_part, flag_part};
 ghost use Rattle.mpi_call.specs.Sizes as sizes;
@@ -128,7 +128,8 @@ pub fn end_request<M: Mem, B: MatchBook>(
     requires apart { AreApart st.old.own (B.held st.old.book) }
     requires came { Some s.now ≡ option_map (λ c. sizes.sizes_of c) (words.came_of (data_in (kept st.old.own st.old.sweep (B.held st.old.book))) number) }
     requires variable_open { places.are_open (areas_of (M.rank_of m.now) (M.top_of m.now) (M.bytes_of m.now)) (variable_part variable number) ≡ true }
-    ensures { (c : Came) → words.came_of (data_in (kept st.old.own st.old.sweep (B.held st.old.book))) number ≡ Some c → Does (words.came_reply (areas_of (M.rank_of m.now) (M.top_of m.now) (M.bytes_of m.now)) (words.ending number (data_in (kept st.old.own st.old.sweep (B.held st.old.book)))) c (words.came_writes c (variable_part variable number) (flag_part flag) status)) (kept st.old.own st.old.sweep (B.held st.old.book)) result (kept st.new.own st.new.sweep (B.held st.new.book)) }
+    ensures does { (c : Came) → words.came_of (data_in (kept st.old.own st.old.sweep (B.held st.old.book))) number ≡ Some c → Does (words.came_reply (areas_of (M.rank_of m.now) (M.top_of m.now) (M.bytes_of m.now)) (words.ending number (data_in (kept st.old.own st.old.sweep (B.held st.old.book)))) c (words.came_writes c (variable_part variable number) (flag_part flag) status)) (kept st.old.own st.old.sweep (B.held st.old.book)) result (kept st.new.own st.new.sweep (B.held st.new.book)) }
+    ensures quiet { IfOk result (λ done. IsQuiet done) }
 {
     if let Some(cause) = came_faults(m, s, has_flag(m, flag), status).cause() {
         return Err(CallStop::Trap(cause));

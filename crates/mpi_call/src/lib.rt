@@ -6,6 +6,8 @@ mod counts;
 mod decoding;
 mod done;
 mod ending;
+mod finishes;
+mod gathering;
 mod joining;
 mod joins;
 mod messages;
@@ -17,4 +19,5 @@ mod state;
 mod waits;
 
 pub use begins::begin;
+pub use finishes::finish;
 pub use done::{Began, CallStop, Finished};

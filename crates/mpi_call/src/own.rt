@@ -6,7 +6,7 @@ ghost use Rattle.mpi_rules.specs.Data as data_words;
 ghost use Rattle.mpi_rules.specs.Places as places;
 ghost use Rattle.mpi_rules.specs.Own as replies;
 ghost use Rattle.mpi_rules.specs.Reply as reply_words;
-ghost use Rattle.mpi_call.specs.Answers.{Kept, kept, data_in, Does, Stops};
+ghost use Rattle.mpi_call.specs.Answers.{Kept, kept, data_in, Does, Stops, IsQuiet};
 ghost use Rattle.mpi_call.specs.Lawful.{AreSized};
 
 use crate::done::{CallStop, Done, quiet, writing};
@@ -68,7 +68,8 @@ pub fn finalize<B: MatchBook>(alloc: Global, st: &mut MpiState<B>) -> Result<Don
 
 /// The int is written, where that may be.
 pub fn told<M: Mem>(alloc: Global, m: &M, to: u64, number: u32) -> Result<Done, CallStop>
-    ensures { (k : Kept) → Does (reply_words.answered (areas_of (M.rank_of m.now) (M.top_of m.now) (M.bytes_of m.now)) (reply_words.writing (data_in k) (places.int_write to (pos number) ∷ []))) k result k }
+    ensures does { (k : Kept) → Does (reply_words.answered (areas_of (M.rank_of m.now) (M.top_of m.now) (M.bytes_of m.now)) (reply_words.writing (data_in k) (places.int_write to (pos number) ∷ []))) k result k }
+    ensures quiet { IfOk result (λ done. IsQuiet done) }
 {
     if !is_open(m, to, 4) {
         return Err(CallStop::Trap(TrapCause::BadAddress));

@@ -1,13 +1,13 @@
 //! The second tick of a receive, Wait and Test.
 
-ghost use Rattle.std.specs.Prelude.{◌≡◌, ◌≢◌, ◌-◌, ◌<◌, ◌∷◌, [], pos, Some, true, option_map, IfOk, IfErr};
+ghost use Rattle.std.specs.Prelude.{◌≡◌, ◌≢◌, ◌-◌, ◌<◌, ◌∷◌, [], pos, Some, true, option_map, IfOk, IfErr, IfSome};
 ghost use Rattle.rank_range.specs.Areas.{areas_of};
 ghost use Rattle.mpi_rules.specs.Data as data_words;
 ghost use Rattle.mpi_rules.specs.Faults.{cause_of};
 ghost use Rattle.mpi_rules.specs.Requests as words;
 ghost use Rattle.mpi_rules.specs.Places as places;
 ghost use Rattle.mpi_rules.specs.Reply as reply_words;
-ghost use Rattle.mpi_call.specs.Answers.{Kept, kept, data_in, Does, MayDo};
+ghost use Rattle.mpi_call.specs.Answers.{kept, data_in, Does, IsQuiet, MayDo};
 ghost use Rattle.mpi_call.specs.Held.{IsHeld};
 ghost use Rattle.mpi_call.specs.Lawful.{AreApart};
 ghost use Rattle.mpi_call.specs.Sizes as sizes;
@@ -35,7 +35,8 @@ pub fn received<M: Mem, B: MatchBook>(
     requires some { 1 < st.old.own.next }
     requires live { data_words.is_live (data_in (kept st.old.own st.old.sweep (B.held st.old.book))) (st.old.own.next - 1) ≡ true }
     requires apart { AreApart st.old.own (B.held st.old.book) }
-    ensures { MayDo (words.received_reply (areas_of (M.rank_of m.now) (M.top_of m.now) (M.bytes_of m.now)) (data_in (kept st.old.own st.old.sweep (B.held st.old.book))) status) (kept st.old.own st.old.sweep (B.held st.old.book)) result (kept st.new.own st.new.sweep (B.held st.new.book)) }
+    ensures does { MayDo (words.received_reply (areas_of (M.rank_of m.now) (M.top_of m.now) (M.bytes_of m.now)) (data_in (kept st.old.own st.old.sweep (B.held st.old.book))) status) (kept st.old.own st.old.sweep (B.held st.old.book)) result (kept st.new.own st.new.sweep (B.held st.new.book)) }
+    ensures quiet { IfOk result (λ o. IfSome o (λ done. IsQuiet done)) }
 {
     let number = st.own.next - 1;
     let Some(s) = completion(st, number) else {
@@ -95,7 +96,8 @@ pub fn wait<M: Mem, B: MatchBook>(
     status: u64,
 ) -> Result<Option<Done>, CallStop>
     requires { AreApart st.old.own (B.held st.old.book) }
-    ensures { MayDo (words.wait_reply (areas_of (M.rank_of m.now) (M.top_of m.now) (M.bytes_of m.now)) (data_in (kept st.old.own st.old.sweep (B.held st.old.book))) at status) (kept st.old.own st.old.sweep (B.held st.old.book)) result (kept st.new.own st.new.sweep (B.held st.new.book)) }
+    ensures does { MayDo (words.wait_reply (areas_of (M.rank_of m.now) (M.top_of m.now) (M.bytes_of m.now)) (data_in (kept st.old.own st.old.sweep (B.held st.old.book))) at status) (kept st.old.own st.old.sweep (B.held st.old.book)) result (kept st.new.own st.new.sweep (B.held st.new.book)) }
+    ensures quiet { IfOk result (λ o. IfSome o (λ done. IsQuiet done)) }
 {
     let number = match held_request(st, m, at) {
         Ok(number) => number,
@@ -120,7 +122,8 @@ pub fn test<M: Mem, B: MatchBook>(
     status: u64,
 ) -> Result<Done, CallStop>
     requires { AreApart st.old.own (B.held st.old.book) }
-    ensures { Does (words.test_reply (areas_of (M.rank_of m.now) (M.top_of m.now) (M.bytes_of m.now)) (data_in (kept st.old.own st.old.sweep (B.held st.old.book))) at flag status) (kept st.old.own st.old.sweep (B.held st.old.book)) result (kept st.new.own st.new.sweep (B.held st.new.book)) }
+    ensures does { Does (words.test_reply (areas_of (M.rank_of m.now) (M.top_of m.now) (M.bytes_of m.now)) (data_in (kept st.old.own st.old.sweep (B.held st.old.book))) at flag status) (kept st.old.own st.old.sweep (B.held st.old.book)) result (kept st.new.own st.new.sweep (B.held st.new.book)) }
+    ensures quiet { IfOk result (λ done. IsQuiet done) }
 {
     let number = match held_request(st, m, at) {
         Ok(number) => number,

@@ -14,8 +14,8 @@ take-body-requires-clause-done g c =
     let k = kept c.args.st.now.own c.args.st.now.sweep (g.B.MatchBook.held c.args.st.now.book) in
     some_there (came_of (data_in k) c.args.number) c.args.s.now c.requires.came
 
-pub returns-in-Some : goal.returns-in-Some
-returns-in-Some g c x is =
+pub returns-in-Some-clause-does : goal.returns-in-Some-clause-does
+returns-in-Some-clause-does g c x is =
     let areas = areas_of (g.M.Mem.rank_of c.args.m.now) (g.M.Mem.top_of c.args.m.now) (g.M.Mem.bytes_of c.args.m.now) in
     let k = kept c.args.st.now.own c.args.st.now.sweep (g.B.MatchBook.held c.args.st.now.book) in
     let variable = variable_part c.args.variable c.args.number in
@@ -26,8 +26,8 @@ returns-in-Some g c x is =
     (sym c.in-Some.is ∙ c.cause.ensures)
     (c.came_faults.ensures x variable flag same c.requires.variable_open c.has_flag.ensures)
 
-pub returns : goal.returns
-returns g c x is =
+pub returns-clause-does : goal.returns-clause-does
+returns-clause-does g c x is =
     let areas = areas_of (g.M.Mem.rank_of c.args.m.now) (g.M.Mem.top_of c.args.m.now) (g.M.Mem.bytes_of c.args.m.now) in
     let k = kept c.args.st.now.own c.args.st.now.sweep (g.B.MatchBook.held c.args.st.now.book) in
     let new = kept c.take-body.new.st.own c.take-body.new.st.sweep (g.B.MatchBook.held c.take-body.new.st.book) in

@@ -27,4 +27,4 @@ returns-in-None g c =
     (sym c.in-None.is ∙ c.cause.ensures)
     (c.comm_faults.ensures k refl ∙ ap (λ (f : CommFacts). comm_faults (data_in k) f) c.facts_at-facts.ensures.value)
     (told_is areas k c.args.to (pos c.facts_at-facts.result.members) (pos (comm_facts areas.rank c.args.st.now.own c.args.comm.now).members) c.told.result
-    (ap (λ (f : CommFacts). pos f.members) c.facts_at-facts.ensures.value) (c.told.ensures k))
+    (ap (λ (f : CommFacts). pos f.members) c.facts_at-facts.ensures.value) (c.told.ensures.does k))
