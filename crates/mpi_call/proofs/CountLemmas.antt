@@ -1,21 +1,17 @@
 -- What `MPI_Get_count` reads, looks at and gives.
-use Rattle.std.proofs.Common.{◌≡◌, ℕ, ℤ, pos, ◌<◌, ◌≤◌, Bool, true, false, cond, not, ◌&&◌, ◌||◌, List, [], ◌∷◌, length, take, drop, arith, refl, ap, sym, subst, ◌∙◌, Option, Some, None, Result, Ok, Err}
+use Rattle.std.proofs.Common.{◌≡◌, ℕ, ℤ, ◌<◌, ◌≤◌, Bool, true, false, cond, not, ◌&&◌, ◌||◌, List, [], ◌∷◌, length, take, drop, arith, refl, ap, sym, subst, ◌∙◌, Option, Some, None, Ok}
 use Rattle.std.specs.Prelude.{nat_le, is_some, unwrap_or}
-use Rattle.std.specs.Int.{w32, cast_unsigned}
 use Rattle.std.proofs.lemmas.Bool.{leb-true}
 use Rattle.std.proofs.lemmas.List.{length-take-le}
 use Rattle.byteorder.specs.Endian.{little_number}
-use Rattle.am_base.specs.declared.traps.TrapCause.{TrapCause}
 use Rattle.am_base.specs.declared.traps.TrapCause.TheVariants.{BadAddress}
 use Rattle.rank_range.specs.Areas.{Areas, bytes_at, bytes_from}
 use Rattle.rank_range.specs.Numbers.{number_at}
-use Rattle.mpi_types.specs.declared.call.Write.{Write}
 use Rattle.mpi_types.specs.declared.kinds.Datatype.{Datatype}
 use Rattle.mpi_types.specs.declared.kinds.Datatype.TheVariants.{Char, SignedChar, UnsignedChar, Byte, Short, UnsignedShort, Int, Unsigned, Long, UnsignedLong, LongLong, UnsignedLongLong}
 use Rattle.mpi_types.specs.Collected.{size_of}
 use Rattle.mpi_types.specs.Tables.{datatype_size}
-use Rattle.mpi_rules.specs.declared.faults.Faults.{Faults}
-use Rattle.mpi_rules.specs.Faults.{cause_of, late_cause_of}
+use Rattle.mpi_rules.specs.Faults.{late_cause_of}
 use Rattle.mpi_rules.specs.Places.{is_open, are_open, read_at, int_write}
 use Rattle.mpi_rules.specs.Reply.{Given, Reply, Gives, Traps, ended, late_address}
 use Rattle.mpi_call.specs.declared.done.CallStop.TheVariants.{Trap}

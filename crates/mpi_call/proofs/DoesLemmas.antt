@@ -1,5 +1,5 @@
 -- A call does what is said of it: the trap of the first check that fails, or else what comes behind the checks.
-use Rattle.std.proofs.Common.{◌≡◌, ℕ, ℤ, pos, Bool, true, false, not, cond, ◌&&◌, List, [], ◌∷◌, length, refl, ap, sym, subst, ◌∙◌, Option, Some, None, Result, Ok, Err}
+use Rattle.std.proofs.Common.{◌≡◌, ℕ, ℤ, pos, Bool, true, false, not, cond, ◌&&◌, List, [], ◌∷◌, length, refl, ap, sym, subst, ◌∙◌, Option, Some, None, Result, Ok}
 use Rattle.am_base.specs.declared.traps.TrapCause.{TrapCause}
 use Rattle.am_base.specs.declared.traps.TrapCause.TheVariants.{BadAddress}
 use Rattle.rank_range.specs.Areas.{Areas}
@@ -13,7 +13,6 @@ use Rattle.mpi_types.specs.declared.state.CompleteKind.TheVariants.{NoProcess}
 use Rattle.mpi_types.specs.declared.call.Write.{Write}
 use Rattle.mpi_types.specs.declared.state.OwnData.{OwnData}
 use Rattle.mpi_rules.specs.declared.faults.Faults.{Faults}
-use Rattle.mpi_rules.specs.declared.faults.LateFaults.{LateFaults}
 use Rattle.mpi_rules.specs.Faults.{cause_of, late_cause_of}
 use Rattle.mpi_rules.specs.Places.{is_open, are_open, int_write, written}
 use Rattle.mpi_rules.specs.declared.arguments.MessageArgs.{MessageArgs}
@@ -139,7 +138,7 @@ receiving_by : (P : Given → Type 0) (mpi : MpiData) (args : MessageArgs)
     → P (receiving mpi args)
 receiving_by P mpi args a b =
     elim (int_eq args.peer PROC_NULL) as (λ x. P (cond x (quiet (with_own (own_with_complete NoProcess mpi.own) mpi))
-        (record (quiet (with_own (own_with_next mpi.own) mpi)) { post = Some (post_of mpi args) })))
+    (record (quiet (with_own (own_with_next mpi.own) mpi)) { post = Some (post_of mpi args) })))
     [ true ↦ a | false ↦ b ]
 
 -- a receive sends nothing and joins nothing, and leaves what was joined

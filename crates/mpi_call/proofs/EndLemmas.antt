@@ -1,7 +1,6 @@
 -- The end of a request: what is looked at, and what is given.
-use Rattle.std.proofs.Common.{◌≡◌, ℕ, pos, ◌==◌, Bool, true, false, cond, not, ◌&&◌, ◌||◌, List, [], ◌∷◌, ◌++◌, length, take, refl, ap, sym, subst, ◌∙◌, Option, Some, None, Result, Ok, Err}
-use Rattle.std.specs.Prelude.{IfSome, is_some, option_map, nat_lt, nat_le}
-use Rattle.std.specs.List.{list_all}
+use Rattle.std.proofs.Common.{◌≡◌, ℕ, ◌==◌, Bool, true, false, cond, not, ◌&&◌, ◌||◌, List, [], ◌∷◌, ◌++◌, length, take, refl, ap, sym, subst, ◌∙◌, Option, Some, None, Ok}
+use Rattle.std.specs.Prelude.{IfSome, is_some, option_map, nat_lt}
 use Rattle.std.proofs.lemmas.List.Folds.{list_all-append}
 use Rattle.std.proofs.Math.Dec.{leb-zero}
 use Rattle.std.proofs.lemmas.Bool.{ne_eqb}
@@ -23,7 +22,7 @@ use Rattle.mpi_call.specs.declared.done.CallStop.{CallStop}
 use Rattle.mpi_call.specs.declared.done.CallStop.TheVariants.{Trap}
 use Rattle.mpi_call.specs.declared.done.Done.{Done}
 use Rattle.mpi_call.specs.declared.requests.Sizes.{Sizes}
-use Rattle.mpi_call.specs.Answers.{Kept, kept, data_in, IsGiven, Does, DoesGive, Stops, Took}
+use Rattle.mpi_call.specs.Answers.{Kept, data_in, IsGiven, Does, DoesGive, Stops, Took}
 use Rattle.mpi_call.specs.Sizes.{sizes_of}
 use Rattle.mpi_call.proofs.DoesLemmas.{only_writes}
 
@@ -122,11 +121,10 @@ took_given k new n c body done writes wanted took is same =
       send = ap (λ (x : Done). x.send) d;
       own_is = took.own_is;
       book = (ap (λ (x : Done). x.hit) d, took.lists_are);
-      sweep =
-          (
-            ap (λ (x : Done). x.sweep) d,
-            took.sweep_is ∙ ap (λ (j : Option Joined). with_joined j k.sweep) (sym (ending_joined n (data_in k))),
-          );
+      sweep = (
+        ap (λ (x : Done). x.sweep) d,
+        took.sweep_is ∙ ap (λ (j : Option Joined). with_joined j k.sweep) (sym (ending_joined n (data_in k))),
+      );
     }
 
 -- what is written, by what is known of what came

@@ -1,8 +1,7 @@
 -- A rank that may join a collective is a member of the communicator.
-use Rattle.std.proofs.Common.{◌≡◌, ℕ, ℤ, ◌+◌, ◌<◌, ◌≤◌, zero, suc, Bool, true, false, List, [], ◌∷◌, length, drop, get_or, arith, refl, ap, sym, subst, ◌∙◌, Option, Some, None}
+use Rattle.std.proofs.Common.{◌≡◌, ℕ, ℤ, ◌<◌, ◌≤◌, zero, suc, true, List, [], ◌∷◌, length, drop, get_or, arith, refl, ap, sym, ◌∙◌, Option, Some, None}
 use Rattle.mpi_types.specs.declared.group.Communicator.{Communicator}
 use Rattle.mpi_types.specs.declared.state.OwnData.{OwnData}
-use Rattle.mpi_rules.specs.declared.arguments.CommFacts.{CommFacts}
 use Rattle.mpi_rules.specs.Data.{communicator_in, comm_facts, facts_in, place_among}
 use Rattle.mpi_rules.specs.Messages.{group_in, group_of}
 use Rattle.mpi_call.specs.Lawful.{AreSized, MayJoin, most_ranks}

@@ -1,11 +1,11 @@
 -- Which requests are live in a book's lists.
-use Rattle.std.proofs.Common.{◌≡◌, ℕ, ◌==◌, ◌<◌, Bool, true, false, cond, ◌||◌, ◌⊎◌, ◌↔◌, inl, inr, List, [], ◌∷◌, length, refl, ap, sym, ◌∙◌, Option, Some, None}
+use Rattle.std.proofs.Common.{◌≡◌, ℕ, ◌==◌, Bool, true, false, cond, ◌||◌, ◌⊎◌, ◌↔◌, inl, inr, List, [], ◌∷◌, refl, sym, ◌∙◌, Option, Some, None}
 use Rattle.std.specs.Prelude.{IsTrue, Any, find, is_some, option_map}
 use Rattle.std.specs.List.{list_any}
 use Rattle.std.proofs.lemmas.Bool.{eq-eqb, eqb-true}
 use Rattle.std.proofs.lemmas.List.Folds.{Any-from_list_any, list_any-from_Any}
 use Rattle.mpi_types.specs.declared.lists.BookLists.{BookLists}
-use Rattle.mpi_types.specs.Book.{IsLive, IsWaiting, IsMatched}
+use Rattle.mpi_types.specs.Book.{IsLive}
 use Rattle.mpi_rules.specs.Data.{is_waiting, pair_of}
 
 -- a number stands in a list just where the test finds it

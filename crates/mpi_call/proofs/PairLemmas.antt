@@ -1,7 +1,6 @@
 -- The pair of a request in an orderly book, and the lists without a request.
-use Rattle.std.proofs.Common.{◌≡◌, ℕ, zero, suc, ◌+◌, ◌==◌, ◌<◌, ◌≤◌, Bool, true, false, cond, not, ◌⊎◌, inl, inr, List, [], ◌∷◌, ◌++◌, length, get_or, arith, refl, ap, sym, subst, ◌∙◌, Option, Some, None}
+use Rattle.std.proofs.Common.{◌≡◌, ℕ, zero, suc, ◌==◌, ◌<◌, Bool, true, false, cond, not, ◌⊎◌, inl, inr, List, [], ◌∷◌, ◌++◌, length, get_or, arith, refl, ap, sym, subst, ◌∙◌, Option, Some, None}
 use Rattle.std.specs.Prelude.{Any, All, AllPairs, Contains, find, filter, is_some, option_map, IfSome}
-use Rattle.std.specs.List.{list_any}
 use Rattle.std.proofs.lemmas.Bool.{eq-eqb, ne_eqb}
 use Rattle.mpi_types.specs.declared.lists.BookLists.{BookLists}
 use Rattle.mpi_types.specs.declared.lists.MatchedPair.{MatchedPair}

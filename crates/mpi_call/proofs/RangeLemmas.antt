@@ -1,10 +1,10 @@
 -- What is accessible has no more bytes than a range.
-use Rattle.std.proofs.Common.{◌≡◌, ℕ, ◌+◌, ◌-◌, ◌<◌, ◌≤◌, Bool, true, false, cond, List, [], length, take, drop, arith, refl, Option, Some, None}
+use Rattle.std.proofs.Common.{◌≡◌, ℕ, ◌-◌, ◌≤◌, Bool, true, false, cond, List, [], length, take, drop, arith, refl, Some, None}
 use Rattle.std.specs.Prelude.{nat_le, is_some}
 use Rattle.std.proofs.lemmas.Bool.{leb-true}
 use Rattle.std.proofs.lemmas.List.{length-drop, length-take}
 use Rattle.rank_range.specs.Areas.{Areas, areas_of, bytes_from, bytes_at, is_in, globals_at, heap_at, stack_at}
-use Rattle.rank_range.specs.Layout.{base_of, globals_start, heap_start, stack_start, range_bytes, IsRange}
+use Rattle.rank_range.specs.Layout.{globals_start, heap_start, stack_start, range_bytes, IsRange}
 use Rattle.rank_range.specs.Parts.{part}
 use Rattle.mpi_rules.specs.Places.{is_open}
 

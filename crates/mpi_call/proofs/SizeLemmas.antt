@@ -1,6 +1,6 @@
 -- How many members the communicator of a number has.
-use Rattle.std.proofs.Common.{◌≡◌, ℕ, ◌+◌, ◌==◌, ◌<◌, ◌≤◌, Bool, true, false, cond, List, [], ◌∷◌, length, arith, refl, subst, suc, zero, Option, Some, None}
-use Rattle.std.specs.Prelude.{ℤ, pos, All, find}
+use Rattle.std.proofs.Common.{◌≡◌, ℕ, ◌+◌, ◌==◌, ◌≤◌, Bool, true, false, cond, List, [], ◌∷◌, length, arith, refl, subst, suc, Option, Some, None}
+use Rattle.std.specs.Prelude.{ℤ, All, find}
 use Rattle.am_base.specs.declared.numbers.RankId.{RankId}
 use Rattle.mpi_types.specs.declared.group.Communicator.{Communicator}
 use Rattle.mpi_types.specs.declared.state.OwnData.{OwnData}

@@ -1,5 +1,5 @@
 -- A complete request ends: what it gives, and the data then.
-use Rattle.std.proofs.Common.{◌≡◌, ℕ, ◌==◌, Bool, true, false, inr, List, [], refl, ap, sym, ◌∙◌, Option, Some, None}
+use Rattle.std.proofs.Common.{◌≡◌, ℕ, ◌==◌, true, inr, List, [], refl, ap, sym, ◌∙◌, Option, Some, None}
 use Rattle.std.specs.Prelude.{IfSome, is_some, option_map}
 use Rattle.mpi_types.specs.declared.lists.BookLists.{BookLists}
 use Rattle.mpi_types.specs.declared.lists.MatchedPair.{MatchedPair}
@@ -7,8 +7,7 @@ use Rattle.mpi_types.specs.declared.state.CompleteKind.{CompleteKind}
 use Rattle.mpi_types.specs.declared.state.CompleteKind.TheVariants.{Send, NoProcess}
 use Rattle.mpi_types.specs.declared.state.CompleteRequest.{CompleteRequest}
 use Rattle.mpi_types.specs.declared.state.OwnData.{OwnData}
-use Rattle.mpi_types.specs.Book.{IsLive}
-use Rattle.mpi_rules.specs.Data.{MpiData, complete_of, pair_of, without, own_without, without_complete, without_pair}
+use Rattle.mpi_rules.specs.Data.{complete_of, pair_of, without, own_without, without_pair}
 use Rattle.mpi_rules.specs.Requests.{Came, came_in, came_of_kind, came_of_pair, completion}
 use Rattle.mpi_call.specs.Answers.{Kept, kept, data_in, Took}
 use Rattle.mpi_call.specs.Lawful.{AreApart}

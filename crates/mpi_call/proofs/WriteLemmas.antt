@@ -1,13 +1,13 @@
 -- Writing bytes, or not, and what that leaves.
-use Rattle.std.proofs.Common.{◌≡◌, ℕ, zero, suc, ◌+◌, ◌-◌, ◌<◌, ◌≤◌, inl, inr, List, [], ◌∷◌, ◌++◌, length, drop, get_or, refl, ap, sym, subst, ◌∙◌, arith, Bool, Option, Some, None, Result, Ok, Err}
+use Rattle.std.proofs.Common.{◌≡◌, ℕ, zero, suc, ◌+◌, ◌-◌, ◌<◌, ◌≤◌, inl, inr, List, [], ◌∷◌, length, drop, get_or, refl, ap, sym, subst, ◌∙◌, arith, Bool, Option, Result, Ok, Err}
 use Rattle.std.specs.Prelude.{slice_index, unwrap_or, OnOk, OnErr}
-use Rattle.rank_range.specs.Layout.{Accessible, IsRange, IsMarked, MarksChanges, base_of, globals_start, page_of}
-use Rattle.rank_range.specs.Parts.{with_part, StayBeside, Keeps}
+use Rattle.rank_range.specs.Layout.{Accessible, IsRange, MarksChanges, base_of, globals_start, page_of}
+use Rattle.rank_range.specs.Parts.{with_part, StayBeside}
 use Rattle.rank_range.specs.Nodes.{blocks_of}
-use Rattle.rank_range.specs.Areas.{Areas, areas_of, with_bytes_at}
+use Rattle.rank_range.specs.Areas.{Areas, areas_of}
 use Rattle.rank_range.proofs.PartLemmas.{put_beside, put_length, put_none}
 use Rattle.rank_range.proofs.AccessLemmas.{becomes, refused}
-use Rattle.rank_range.proofs.ChangeLemmas.{beside_both, keeps_both, keeps_none}
+use Rattle.rank_range.proofs.ChangeLemmas.{beside_both, keeps_both}
 use Rattle.mpi_types.specs.declared.call.Write.{Write}
 use Rattle.mpi_rules.specs.Places.{written, written_one}
 use Rattle.mpi_call.specs.Written.{Leaves}

@@ -38,7 +38,11 @@ fn element_bits(bytes: u32, size: u32) -> u32
     requires small { bytes < 2 ^ 31 }
     ensures { result ≡ cast_unsigned w32 (words.elements_in bytes size) }
 {
-    if bytes % size == 0 { bytes / size } else { UNDEFINED.cast_unsigned() }
+    if bytes % size == 0 {
+        bytes / size
+    } else {
+        UNDEFINED.cast_unsigned()
+    }
 }
 
 /// The same of so many bytes below 0.
@@ -47,7 +51,11 @@ fn negative_bits(bytes: u32, size: u32) -> u32
     requires least { 0 < bytes }
     ensures { result ≡ cast_unsigned w32 (words.count_value (negsuc (bytes - 1)) size) }
 {
-    if bytes % size == 0 { (bytes / size).wrapping_neg() } else { UNDEFINED.cast_unsigned() }
+    if bytes % size == 0 {
+        (bytes / size).wrapping_neg()
+    } else {
+        UNDEFINED.cast_unsigned()
+    }
 }
 
 /// What the int of these bits is as a count, as bits.
@@ -57,7 +65,11 @@ fn count_bits(bits: u64, size: u32) -> u32
     ensures { result ≡ cast_unsigned w32 (words.count_value (places.int_of bits) size) }
 {
     let low = (bits % 0x1_0000_0000) as u32;
-    if low < 0x8000_0000 { element_bits(low, size) } else { negative_bits(low.wrapping_neg(), size) }
+    if low < 0x8000_0000 {
+        element_bits(low, size)
+    } else {
+        negative_bits(low.wrapping_neg(), size)
+    }
 }
 
 fn count_faults<B: MatchBook>(st: &MpiState<B>, datatype: &i32) -> Faults

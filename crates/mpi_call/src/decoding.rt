@@ -57,7 +57,11 @@ fn broadcast_args(words: &[u64]) -> CollectiveArgs
     CollectiveArgs {
         root: int_at(words, 3),
         comm: int_at(words, 4),
-        ..plain_args(Collective::Bcast, elements_from(words, 0), elements_from(words, 0))
+        ..plain_args(
+            Collective::Bcast,
+            elements_from(words, 0),
+            elements_from(words, 0),
+        )
     }
 }
 

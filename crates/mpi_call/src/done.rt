@@ -2,8 +2,8 @@
 
 ghost use Rattle.std.specs.Prelude.{◌≡◌, pos, [], Some, None};
 
-use collectives::SweepOut;
 use am_base::TrapCause;
+use collectives::SweepOut;
 use mpi_rules::SendOut;
 use mpi_types::{Hit, Sequence, Write};
 use std::alloc::{AllocError, Global};

@@ -13,9 +13,7 @@ ghost use Rattle.mpi_call.specs.Numbers.{place_for};
 
 use am_base::Bytes;
 use comms::{dup, split};
-use mpi_types::{
-    Arg, Collective, Communicator, Group, OwnData, Sequence, SplitArg, collected,
-};
+use mpi_types::{Arg, Collective, Communicator, Group, OwnData, Sequence, SplitArg, collected};
 use std::alloc::{AllocError, Global};
 use std::mem;
 
@@ -34,8 +32,7 @@ fn is_same_arg(a: &Arg, b: &Arg) -> bool
 {
     are_alike(a, b)
         && (a.member == b.member
-            && (a.colour == b.colour
-                && (a.key == b.key && a.body.as_slice() == b.body.as_slice())))
+            && (a.colour == b.colour && (a.key == b.key && a.body.as_slice() == b.body.as_slice())))
 }
 
 /// Whether the rank's own argument stands in the list as the rank gave it.

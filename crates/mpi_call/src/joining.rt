@@ -174,7 +174,10 @@ pub fn bytes_differ(facts: &CommFacts, args: &CollectiveArgs) -> bool
     requires { facts.now.members ≤ most_ranks }
     ensures { result ≡ words.bytes_differ facts.now args.now }
 {
-    in_use(sends(facts, args), in_use(receives(facts, args), differ(args)))
+    in_use(
+        sends(facts, args),
+        in_use(receives(facts, args), differ(args)),
+    )
 }
 
 pub fn has_wrong_operation(args: &CollectiveArgs) -> bool

@@ -62,8 +62,15 @@ fn is_closed<M: Mem>(m: &M, facts: &CommFacts, args: &CollectiveArgs) -> bool
     requires { facts.now.members ≤ most_ranks }
     ensures { result ≡ (not (places.is_open (areas_of (M.rank_of m.now) (M.top_of m.now) (M.bytes_of m.now)) args.now.sent.address (words.sends facts.now args.now * words.bytes_in args.now.sent)) || not (places.is_open (areas_of (M.rank_of m.now) (M.top_of m.now) (M.bytes_of m.now)) args.now.received.address (words.receives facts.now args.now * words.bytes_in args.now.received))) }
 {
-    !is_open(m, args.sent.address, bytes_of_blocks(sends(facts, args), &args.sent))
-        || !is_open(m, args.received.address, bytes_of_blocks(receives(facts, args), &args.received))
+    !is_open(
+        m,
+        args.sent.address,
+        bytes_of_blocks(sends(facts, args), &args.sent),
+    ) || !is_open(
+        m,
+        args.received.address,
+        bytes_of_blocks(receives(facts, args), &args.received),
+    )
 }
 
 fn join_faults<M: Mem, B: MatchBook>(
@@ -119,7 +126,12 @@ fn arg_of<M: Mem>(
     ensures { IfOk result (λ arg. arg ≡ words.arg_of (areas_of (M.rank_of m.now) (M.top_of m.now) (M.bytes_of m.now)) facts.now args.now) }
 {
     let told = told_by(args);
-    let body = read(alloc, m, args.sent.address, bytes_of_blocks(sends(facts, args), &args.sent))?;
+    let body = read(
+        alloc,
+        m,
+        args.sent.address,
+        bytes_of_blocks(sends(facts, args), &args.sent),
+    )?;
     Ok(Arg {
         member: facts.member as u16,
         kind: args.kind,
@@ -160,7 +172,11 @@ fn next_position(c: &Communicator, comm: &i32) -> u32
     requires { c.now.position + 1 < 2 ^ 32 }
     ensures { result ≡ if int_eq (pos c.now.number) comm.now then c.now.position + 1 else c.now.position }
 {
-    if i32::from(c.number) == *comm { c.position + 1 } else { c.position }
+    if i32::from(c.number) == *comm {
+        c.position + 1
+    } else {
+        c.position
+    }
 }
 
 fn step_positions(list: &mut [Communicator], comm: &i32)

@@ -19,5 +19,5 @@ mod state;
 mod waits;
 
 pub use begins::begin;
-pub use finishes::finish;
 pub use done::{Began, CallStop, Finished};
+pub use finishes::finish;

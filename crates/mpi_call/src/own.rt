@@ -15,7 +15,9 @@ use crate::places::{int_write, is_open, number_write, variable};
 use crate::state::{facts_at, is_running};
 use am_base::TrapCause;
 use mpi_rules::{CommFacts, Faults};
-use mpi_types::{COMM_NULL, COMM_WORLD, Communicator, MatchBook, MpiState, OwnData, Phase, Sequence};
+use mpi_types::{
+    COMM_NULL, COMM_WORLD, Communicator, MatchBook, MpiState, OwnData, Phase, Sequence,
+};
 use rank_range::Mem;
 use std::alloc::Global;
 use std::mem;
@@ -78,7 +80,12 @@ pub fn told<M: Mem>(alloc: Global, m: &M, to: u64, number: u32) -> Result<Done, 
 }
 
 #[tactic(auto, unfolding(mpi_rules::specs::Own::initialized_reply))]
-pub fn initialized<M: Mem, B: MatchBook>(alloc: Global, st: &MpiState<B>, m: &M, flag: u64) -> Result<Done, CallStop>
+pub fn initialized<M: Mem, B: MatchBook>(
+    alloc: Global,
+    st: &MpiState<B>,
+    m: &M,
+    flag: u64,
+) -> Result<Done, CallStop>
     ensures { Does (replies.initialized_reply (areas_of (M.rank_of m.now) (M.top_of m.now) (M.bytes_of m.now)) (data_in (kept st.now.own st.now.sweep (B.held st.now.book))) flag) (kept st.now.own st.now.sweep (B.held st.now.book)) result (kept st.now.own st.now.sweep (B.held st.now.book)) }
 {
     match st.own.phase {
@@ -89,7 +96,12 @@ pub fn initialized<M: Mem, B: MatchBook>(alloc: Global, st: &MpiState<B>, m: &M,
 }
 
 #[tactic(auto, unfolding(mpi_rules::specs::Own::finalized_reply))]
-pub fn finalized<M: Mem, B: MatchBook>(alloc: Global, st: &MpiState<B>, m: &M, flag: u64) -> Result<Done, CallStop>
+pub fn finalized<M: Mem, B: MatchBook>(
+    alloc: Global,
+    st: &MpiState<B>,
+    m: &M,
+    flag: u64,
+) -> Result<Done, CallStop>
     ensures { Does (replies.finalized_reply (areas_of (M.rank_of m.now) (M.top_of m.now) (M.bytes_of m.now)) (data_in (kept st.now.own st.now.sweep (B.held st.now.book))) flag) (kept st.now.own st.now.sweep (B.held st.now.book)) result (kept st.now.own st.now.sweep (B.held st.now.book)) }
 {
     match st.own.phase {
@@ -110,7 +122,13 @@ fn comm_faults(own: &OwnData, facts: &CommFacts) -> Faults
 }
 
 #[tactic(auto, unfolding(mpi_rules::specs::Own::rank_reply))]
-pub fn comm_rank<M: Mem, B: MatchBook>(alloc: Global, st: &MpiState<B>, m: &M, comm: &i32, to: u64) -> Result<Done, CallStop>
+pub fn comm_rank<M: Mem, B: MatchBook>(
+    alloc: Global,
+    st: &MpiState<B>,
+    m: &M,
+    comm: &i32,
+    to: u64,
+) -> Result<Done, CallStop>
     requires { AreSized st.now.own }
     ensures { Does (replies.rank_reply (areas_of (M.rank_of m.now) (M.top_of m.now) (M.bytes_of m.now)) (data_in (kept st.now.own st.now.sweep (B.held st.now.book))) comm.now to) (kept st.now.own st.now.sweep (B.held st.now.book)) result (kept st.now.own st.now.sweep (B.held st.now.book)) }
 {
@@ -122,7 +140,13 @@ pub fn comm_rank<M: Mem, B: MatchBook>(alloc: Global, st: &MpiState<B>, m: &M, c
 }
 
 #[tactic(auto, unfolding(mpi_rules::specs::Own::size_reply))]
-pub fn comm_size<M: Mem, B: MatchBook>(alloc: Global, st: &MpiState<B>, m: &M, comm: &i32, to: u64) -> Result<Done, CallStop>
+pub fn comm_size<M: Mem, B: MatchBook>(
+    alloc: Global,
+    st: &MpiState<B>,
+    m: &M,
+    comm: &i32,
+    to: u64,
+) -> Result<Done, CallStop>
     requires { AreSized st.now.own }
     ensures { Does (replies.size_reply (areas_of (M.rank_of m.now) (M.top_of m.now) (M.bytes_of m.now)) (data_in (kept st.now.own st.now.sweep (B.held st.now.book))) comm.now to) (kept st.now.own st.now.sweep (B.held st.now.book)) result (kept st.now.own st.now.sweep (B.held st.now.book)) }
 {
@@ -158,7 +182,12 @@ fn free_faults<M: Mem>(own: &OwnData, m: &M, to: u64, comm: &i32) -> Faults
 }
 
 #[tactic(auto, unfolding(mpi_rules::specs::Own::free_reply))]
-pub fn comm_free<M: Mem, B: MatchBook>(alloc: Global, st: &mut MpiState<B>, m: &M, to: u64) -> Result<Done, CallStop>
+pub fn comm_free<M: Mem, B: MatchBook>(
+    alloc: Global,
+    st: &mut MpiState<B>,
+    m: &M,
+    to: u64,
+) -> Result<Done, CallStop>
     requires { AreSized st.old.own }
     ensures { Does (replies.free_reply (areas_of (M.rank_of m.now) (M.top_of m.now) (M.bytes_of m.now)) (data_in (kept st.old.own st.old.sweep (B.held st.old.book))) to) (kept st.old.own st.old.sweep (B.held st.old.book)) result (kept st.new.own st.new.sweep (B.held st.new.book)) }
 {

@@ -58,11 +58,7 @@ pub fn int_write(alloc: Global, address: u64, number: &i32) -> Result<Sequence<W
 }
 
 /// A write of a number of four bytes alone.
-pub fn number_write(
-    alloc: Global,
-    address: u64,
-    number: u32,
-) -> Result<Sequence<Write>, AllocError>
+pub fn number_write(alloc: Global, address: u64, number: u32) -> Result<Sequence<Write>, AllocError>
     ensures { IfOk result (λ writes. writes ≡ messages.request_write address number ∷ []) }
 {
     let mut writes = Sequence::new(alloc);

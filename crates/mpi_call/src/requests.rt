@@ -12,8 +12,8 @@ ghost use Rattle.mpi_call.specs.Sizes as sizes;
 use crate::state::complete_kind;
 use am_base::Bytes;
 use mpi_types::{
-    CompleteKind, CompleteRequest, Completion, MatchBook, Message, MpiState, OwnData, Posted, Sequence,
-    Status,
+    CompleteKind, CompleteRequest, Completion, MatchBook, Message, MpiState, OwnData, Posted,
+    Sequence, Status,
 };
 use std::alloc::Global;
 use std::mem;

@@ -1,4 +1,4 @@
-use Rattle.std.proofs.Common.{◌≡◌, ◌<◌, ℕ, ℤ, ◌∙◌, Bool, not, ◌||◌, List, [], ◌∷◌, drop, ap, sym, subst, refl, None, Ok, Err}
+use Rattle.std.proofs.Common.{◌≡◌, ◌<◌, ℕ, ℤ, ◌∙◌, Bool, not, ◌||◌, List, [], ◌∷◌, drop, ap, sym, subst, Ok, Err}
 use Rattle.std.specs.Prelude.{is_some}
 use Rattle.std.specs.Int.{w32, cast_unsigned}
 use Rattle.byteorder.specs.Endian.{little_number}

@@ -1,4 +1,4 @@
-use Rattle.std.proofs.Common.{◌≤◌, arith}
+use Rattle.std.proofs.Common.{arith}
 use Rattle.rank_range.specs.Areas.{areas_of}
 use Rattle.mpi_call.proofs.CountLemmas.{seen_length, seen_number}
 use Rattle.mpi_call.proofs.counts.status_bits.Goals as goal

@@ -1,6 +1,5 @@
 use Rattle.std.proofs.Common.{◌≡◌, ◌∙◌, sym}
 use Rattle.rank_range.specs.Areas.{areas_of}
-use Rattle.mpi_rules.specs.Places.{are_open}
 use Rattle.mpi_rules.specs.Reply.{writing}
 use Rattle.mpi_rules.specs.Requests.{came_of, came_writes, came_faults, ending}
 use Rattle.mpi_call.specs.Answers.{kept, data_in, Took}

@@ -3,7 +3,7 @@ use Rattle.rank_range.specs.Areas.{areas_of}
 use Rattle.mpi_rules.specs.Calls.{reply, reply_to}
 use Rattle.mpi_rules.specs.Places.{written}
 use Rattle.mpi_rules.specs.Reply.{Reply}
-use Rattle.mpi_call.specs.Answers.{kept, data_in, call_of, DoesGive}
+use Rattle.mpi_call.specs.Answers.{kept, data_in, DoesGive}
 use Rattle.mpi_call.specs.Served.{is_receive}
 use Rattle.mpi_call.proofs.DoesLemmas.{ended_by, given_some, quiet_some}
 use Rattle.mpi_call.proofs.finishes.finish.Goals as goal

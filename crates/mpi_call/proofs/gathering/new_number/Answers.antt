@@ -1,5 +1,5 @@
-use Rattle.std.proofs.Common.{◌≡◌, ◌+◌, ◌-◌, ◌∙◌, sym, length, arith}
-use Rattle.mpi_rules.specs.Collectives.{free_from, new_number}
+use Rattle.std.proofs.Common.{◌+◌, ◌-◌, ◌∙◌, sym, length, arith}
+use Rattle.mpi_rules.specs.Collectives.{new_number}
 use Rattle.mpi_call.proofs.NumberLemmas.{free_at, free_here, free_next}
 use Rattle.mpi_call.proofs.gathering.new_number.Goals as goal
 

@@ -1,15 +1,13 @@
-use Rattle.std.proofs.Common.{◌≡◌, ◌<◌, ◌≤◌, ◌∙◌, ℕ, true, length, ap, sym, subst, arith, None}
+use Rattle.std.proofs.Common.{◌≡◌, ◌<◌, ◌∙◌, true, length, ap, sym, arith, None}
 use Rattle.rank_range.specs.Areas.{areas_of}
 use Rattle.mpi_types.specs.declared.argument.Arg.{Arg}
 use Rattle.mpi_types.specs.declared.group.Group.{Group}
 use Rattle.mpi_rules.specs.declared.arguments.CommFacts.{CommFacts}
-use Rattle.mpi_rules.specs.declared.faults.Faults.{Faults}
 use Rattle.mpi_rules.specs.Collectives.{join_faults}
 use Rattle.mpi_rules.specs.Data.{comm_facts}
 use Rattle.mpi_rules.specs.Faults.{cause_of}
 use Rattle.mpi_rules.specs.Messages.{group_of}
 use Rattle.mpi_call.specs.Answers.{kept, data_in}
-use Rattle.mpi_call.specs.Lawful.{most_ranks}
 use Rattle.mpi_call.proofs.DoesLemmas.{no_comm, not_false}
 use Rattle.mpi_call.proofs.JoinLemmas.{group_sized, member_of}
 use Rattle.mpi_call.proofs.joins.join.Goals as goal

@@ -1,4 +1,4 @@
-use Rattle.std.proofs.Common.{◌≡◌, ◌<◌, ◌+◌, ◌^◌, ℕ, sym, subst, arith}
+use Rattle.std.proofs.Common.{◌<◌, ◌+◌, ◌^◌, sym, subst, arith}
 use Rattle.mpi_types.specs.declared.group.Communicator.{Communicator}
 use Rattle.mpi_call.proofs.JoinLemmas.{same_at}
 use Rattle.mpi_call.proofs.joins.step_positions.Goals as goal

@@ -1,4 +1,4 @@
-use Rattle.std.proofs.Common.{◌≡◌, ◌∙◌, pos, sym, refl, arith, [], ◌∷◌, Some, None, Ok, Err}
+use Rattle.std.proofs.Common.{◌∙◌, pos, sym, refl, arith, [], ◌∷◌, Some, None, Ok, Err}
 use Rattle.am_base.specs.declared.traps.TrapCause.TheVariants.{BadAddress}
 use Rattle.rank_range.specs.Areas.{areas_of}
 use Rattle.mpi_rules.specs.Messages.{ireceive_reply, receive_faults, request_write, receiving}

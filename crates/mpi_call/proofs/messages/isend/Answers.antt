@@ -1,4 +1,4 @@
-use Rattle.std.proofs.Common.{◌≡◌, ◌∙◌, pos, ap, sym, refl, [], ◌∷◌, Some, None, Ok, Err}
+use Rattle.std.proofs.Common.{◌∙◌, pos, ap, sym, refl, [], ◌∷◌, Some, None, Ok, Err}
 use Rattle.am_base.specs.declared.traps.TrapCause.TheVariants.{BadAddress}
 use Rattle.rank_range.specs.Areas.{areas_of}
 use Rattle.mpi_types.specs.declared.state.CompleteKind.TheVariants.{Send}

@@ -1,4 +1,4 @@
-use Rattle.std.proofs.Common.{◌≡◌, ◌∙◌, ℤ, pos, ap, sym, refl, [], ◌∷◌}
+use Rattle.std.proofs.Common.{◌∙◌, pos, ap, sym, refl, [], ◌∷◌}
 use Rattle.rank_range.specs.Areas.{areas_of}
 use Rattle.mpi_rules.specs.declared.arguments.CommFacts.{CommFacts}
 use Rattle.mpi_rules.specs.Data.{comm_facts}

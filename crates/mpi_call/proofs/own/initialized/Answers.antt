@@ -1,7 +1,7 @@
 use Rattle.std.proofs.Common.{ℤ, pos, ap, sym, not}
 use Rattle.rank_range.specs.Areas.{areas_of}
 use Rattle.mpi_types.specs.declared.state.Phase.{Phase}
-use Rattle.mpi_rules.specs.Data.{is_before, is_after}
+use Rattle.mpi_rules.specs.Data.{is_before}
 use Rattle.mpi_rules.specs.Own.{flag_of, initialized_reply}
 use Rattle.mpi_call.specs.Answers.{kept}
 use Rattle.mpi_call.proofs.DoesLemmas.{told_is}
@@ -30,4 +30,3 @@ returns-in-After g c =
     let areas = areas_of (g.M.Mem.rank_of c.args.m.now) (g.M.Mem.top_of c.args.m.now) (g.M.Mem.bytes_of c.args.m.now) in
     let k = kept c.args.st.now.own c.args.st.now.sweep (g.B.MatchBook.held c.args.st.now.book) in
     told_is areas k c.args.flag (pos 1) (is_begun c.args.st.now.own.phase) c.told-in-After.result (ap (λ (p : Phase). is_begun p) (sym c.in-After.is)) (c.told-in-After.ensures.does k)
-

@@ -1,4 +1,4 @@
-use Rattle.std.proofs.Common.{◌≡◌, ◌∙◌, pos, refl, [], ◌∷◌, sym}
+use Rattle.std.proofs.Common.{◌∙◌, pos, refl, [], ◌∷◌}
 use Rattle.rank_range.specs.Areas.{areas_of}
 use Rattle.mpi_rules.specs.Places.{int_write}
 use Rattle.mpi_rules.specs.Reply.{writing}

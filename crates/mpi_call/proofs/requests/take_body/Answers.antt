@@ -1,4 +1,4 @@
-use Rattle.std.proofs.Common.{◌||◌, ◌∙◌, ap, sym}
+use Rattle.std.proofs.Common.{◌||◌, ap}
 use Rattle.std.specs.Prelude.{is_some}
 use Rattle.mpi_types.specs.declared.lists.BookLists.{BookLists}
 use Rattle.mpi_types.specs.declared.state.OwnData.{OwnData}

@@ -1,4 +1,4 @@
-use Rattle.std.proofs.Common.{◌≡◌, ◌≤◌, subst, sym, ℕ}
+use Rattle.std.proofs.Common.{◌≤◌, subst, sym}
 use Rattle.mpi_rules.specs.declared.arguments.CommFacts.{CommFacts}
 use Rattle.mpi_call.specs.Lawful.{most_ranks}
 use Rattle.mpi_call.proofs.SizeLemmas.{facts_sized}

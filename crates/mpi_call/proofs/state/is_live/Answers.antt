@@ -1,6 +1,5 @@
-use Rattle.std.proofs.Common.{◌≡◌, ◌||◌, ap, sym, ◌∙◌, Bool, false, Option}
-use Rattle.std.specs.Prelude.{is_some, option_map}
-use Rattle.mpi_types.specs.declared.state.CompleteRequest.{CompleteRequest}
+use Rattle.std.proofs.Common.{◌||◌, sym, ◌∙◌}
+use Rattle.std.specs.Prelude.{is_some}
 use Rattle.mpi_rules.specs.Data.{is_live, complete_of, is_waiting, pair_of}
 use Rattle.mpi_call.proofs.LiveLemmas.{live_told, none_or}
 use Rattle.mpi_call.proofs.state.is_live.Goals as goal
