@@ -1,0 +1,11 @@
+pub mod DoesLemmas
+pub mod LiveLemmas
+pub mod RangeLemmas
+pub mod SizeLemmas
+pub mod WriteLemmas
+pub mod PairLemmas
+pub mod TakeLemmas
+pub mod EndLemmas
+pub mod CountLemmas
+pub mod JoinLemmas
+pub mod NumberLemmas

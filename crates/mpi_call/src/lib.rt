@@ -1,0 +1,23 @@
+//! The calls of MPI on one rank: what is wrong with a call, what it gives, and what it leaves (MPI 3.1).
+#![tactic(auto)]
+
+mod begins;
+mod counts;
+mod decoding;
+mod done;
+mod ending;
+mod finishes;
+mod gathering;
+mod joining;
+mod joins;
+mod messages;
+mod numbers;
+mod own;
+mod places;
+mod requests;
+mod state;
+mod waits;
+
+pub use begins::begin;
+pub use done::{Began, CallStop, Finished};
+pub use finishes::finish;

@@ -1,0 +1,4 @@
+pub mod ByteLemmas
+pub mod OpenLemmas
+pub mod ComeLemmas
+pub mod CallLemmas

@@ -1,0 +1,10 @@
+pub mod Faults
+pub mod Data
+pub mod Places
+pub mod Reply
+pub mod Own
+pub mod Messages
+pub mod Requests
+pub mod Collectives
+pub mod Calls
+pub mod Answers
