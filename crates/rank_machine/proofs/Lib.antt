@@ -1,0 +1,9 @@
+pub mod ListLemmas
+pub mod FrameLemmas
+pub mod AccessLemmas
+pub mod PrinterLemmas
+pub mod RecordLemmas
+pub mod MemoryLemmas
+pub mod CallLemmas
+pub mod LibraryLemmas
+pub mod StepLemmas

@@ -1,0 +1,17 @@
+//! Runs the code of a program on one rank, over any memory of a rank. Between two runs a rank is its bytes and its registers.
+#![tactic(auto)]
+
+mod access;
+mod calls;
+mod halt;
+mod library;
+mod operands;
+mod plain;
+mod printer;
+mod reaching;
+mod records;
+mod step;
+mod stop;
+mod work;
+
+pub use stop::Stop;
