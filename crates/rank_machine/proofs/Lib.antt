@@ -7,3 +7,5 @@ pub mod MemoryLemmas
 pub mod CallLemmas
 pub mod LibraryLemmas
 pub mod StepLemmas
+pub mod LedLemmas
+pub mod RunLemmas

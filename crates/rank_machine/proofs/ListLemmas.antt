@@ -58,3 +58,6 @@ got {X = X} xs ys i x same within is =
 
 pub got_none : {X : Type 0} (xs ys : List X) (i : ℕ) → ys ≡ xs → length ys ≤ i → slice_get xs i ≡ None
 got_none {X = X} xs ys i same past = ap (λ (zs : List X). slice_get zs i) (sym same) ∙ slice_get_past ys i past
+
+pub found_at : {X : Type 0} (xs ys : List X) (i : ℕ) (d : X) → ys ≡ xs → i < length xs → slice_get xs i ≡ Some (get_or ys i d)
+found_at xs ys i d same within = slice_get-get_or xs i d within ∙ ap (λ zs. Some (get_or zs i d)) (sym same)

@@ -10,6 +10,7 @@ mod plain;
 mod printer;
 mod reaching;
 mod records;
+mod run;
 mod step;
 mod stop;
 mod work;

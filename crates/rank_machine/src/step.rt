@@ -1,6 +1,6 @@
 //! One instruction.
 
-ghost use Rattle.std.specs.Prelude.{◌≡◌, ◌+◌, ◌<◌, ◌≤◌, ◌^◌, ℕ, suc, List, Some, false, IfOk, OnErr};
+ghost use Rattle.std.specs.Prelude.{◌≡◌, ◌+◌, ◌<◌, ◌≤◌, ◌^◌, ℕ, suc, List, Some, true, false, IfOk, OnErr};
 ghost use Rattle.rank_range.specs.Nodes.{HasHeap};
 ghost use Rattle.rank_range.specs.Areas.{memory_of};
 ghost use Rattle.vm_code.specs.declared.code.Code.{Code};
@@ -42,6 +42,7 @@ pub fn step<M: Mem>(
     ensures frames { OnErr result ((limit k : ℕ) → k ≤ 256 → frames_of (M.bytes_of memory.new) limit k ≡ frames_of (M.bytes_of memory.old) limit k) }
     ensures stack { OnErr result (M.top_of memory.new ≡ M.top_of memory.old) }
     ensures quiet { OnErr result (printer.new ≡ printer.old) }
+    ensures tick { OnErr result (is_tick (Some instr) ≡ true) }
     ensures kept { Kept (M.rank_of memory.old) (M.rank_of memory.new) (M.bytes_of memory.old) (M.bytes_of memory.new) (M.marks_of memory.old) (M.marks_of memory.new) }
 {
     match instr {

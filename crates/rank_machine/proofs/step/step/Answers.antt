@@ -34,5 +34,6 @@ returns-in_default g c =
       frames = tt;
       stack = tt;
       quiet = tt;
+      tick = tt;
       kept = c.step_between.ensures.kept;
     }
