@@ -9,3 +9,8 @@ pub mod LibraryLemmas
 pub mod StepLemmas
 pub mod LedLemmas
 pub mod RunLemmas
+pub mod LineLemmas
+pub mod StopLemmas
+pub mod RestLemmas
+pub mod BeginLemmas
+pub mod GoLemmas

@@ -95,12 +95,12 @@ leads_more code from now new printed taken out more o b l found shows = record {
 }
 
 -- the machine at which it stopped
-record Halts (m : Moved) (stop : Stop) (done : Done) : Type 0 where
-  last : Config
-  reached : m ≡ Stopped stop last
-  is : last.done ≡ done
+pub record Halts (m : Moved) (stop : Stop) (done : Done) : Type 0 where
+  pub last : Config
+  pub reached : m ≡ Stopped stop last
+  pub is : last.done ≡ done
 
-halts : (m : Moved) (stop : Stop) (done : Done) → Halted stop done ≡ shown m → Halts m stop done
+pub halts : (m : Moved) (stop : Stop) (done : Done) → Halted stop done ≡ shown m → Halts m stop done
 halts (Went c) stop done e = absurd (cc (e))
 halts (Stopped other c) stop done e =
     let same : stop ≡ other = cc (e) in
@@ -140,7 +140,7 @@ strands_more code from now printed taken out o b l found shows = record {
       step_exec code from now printed taken out o b l found tally 0 size ∙ ap (λ (m : Moved). follow m (exec code 0)) none;
 }
 
-leads_start : (code : Code) (from : Tally → Config) (printed : ℕ) → LeadsTo code from from printed 0 []
+pub leads_start : (code : Code) (from : Tally → Config) (printed : ℕ) → LeadsTo code from from printed 0 []
 leads_start code from printed = record {
   count = 0;
   joined = λ tally more size.

@@ -4,7 +4,6 @@ use Rattle.std.specs.Prelude.{ℕ, zero, suc, ◌+◌, ◌*◌, ◌^◌, ◌%◌
 use Rattle.rank_range.specs.Layout.{base_of, globals_start, stack_start}
 use Rattle.rank_range.specs.Numbers.{number_at}
 use Rattle.rank_range.specs.Areas.{memory_of}
-use Rattle.rank_range.specs.declared.run.Regs.{Regs}
 use Rattle.mpi_types.specs.declared.call.Call.{Call}
 use Rattle.mpi_types.specs.declared.call.Answer.{Answer}
 use Rattle.vm_code.specs.declared.code.Code.{Code}
@@ -80,9 +79,12 @@ abbrev pub words_for : ℕ → Option Instr → List ℕ
 words_for rank (Some (instr.Call function count)) = take count (1 ∷ (base_of rank + globals_start) % 2 ^ 64 ∷ [])
 words_for rank _ = []
 
--- A rank as it stands in its bytes and registers.
+-- A rank as it stands in its registers and its bytes: the place of its next instruction, how many calls haven't returned, its
+-- ticks; its number, the top of its data stack, and all its bytes.
 pub record Rank : Type 0 where
-  pub regs : Regs
+  pub place : ℕ
+  pub depth : ℕ
+  pub ticks : ℕ
   pub number : ℕ
   pub top : ℕ
   pub bytes : List ℕ
@@ -98,19 +100,31 @@ work_at place top bytes number =
       number = number;
     }
 
-abbrev pub config_in : Code → Rank → ℕ → Tally → Config
-config_in code rank zero tally =
+-- the machine in the midst of a call, after so many ticks
+abbrev pub config_since : Work → ℕ → ℕ → List ℕ → ℕ → Tally → Config
+config_since work rank top bytes ticks tally = config_of work rank top bytes (record tally { ticks = ticks })
+
+-- the machine before the call of `main`
+abbrev pub config_before : Code → Rank → Tally → Config
+config_before code rank tally =
     record {
-      place = rank.regs.position;
+      place = rank.place;
       frame = record bottom { operands = reverse (words_for rank.number (slice_get code.instrs 0)) };
       callers = [];
       done = done_of rank.number rank.top rank.bytes tally;
       left = tally.left;
       answers = tally.answers;
     }
-config_in code rank (suc number) tally =
-    config_of (work_at rank.regs.position rank.top rank.bytes number) rank.number rank.top rank.bytes tally
 
--- the machine of a rank, whatever it printed and did, and whatever it may do
+abbrev pub config_in : Code → Rank → ℕ → Tally → Config
+config_in code rank zero tally = config_before code rank (record tally { ticks = rank.ticks })
+config_in code rank (suc number) tally =
+    config_since (work_at rank.place rank.top rank.bytes number) rank.number rank.top rank.bytes rank.ticks tally
+
+-- The machine of a rank, whatever it printed and whatever calls of MPI it made before, and whatever ticks and answers are left.
 abbrev pub config_at : Code → Rank → Tally → Config
-config_at code rank tally = config_in code rank rank.regs.depth (record tally { ticks = rank.regs.ticks })
+config_at code rank tally = config_in code rank rank.depth tally
+
+-- what a rank has done
+abbrev pub done_at : Rank → Tally → Done
+done_at rank tally = done_of rank.number rank.top rank.bytes (record tally { ticks = rank.ticks })

@@ -2,9 +2,12 @@
 #![tactic(auto)]
 
 mod access;
+mod begin;
 mod calls;
 mod halt;
 mod library;
+mod lines;
+mod machine;
 mod operands;
 mod plain;
 mod printer;
