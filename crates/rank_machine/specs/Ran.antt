@@ -1,5 +1,5 @@
 -- What a run of a rank up to so many ticks did.
-use Rattle.std.specs.Prelude.{ℕ, suc, ◌≡◌, ◌+◌, ◌≤◌, Bool, true, false, List, [], length, Option, Some, None, slice_get}
+use Rattle.std.specs.Prelude.{ℕ, suc, ◌≡◌, ◌+◌, ◌≤◌, ◌⊎◌, Bool, true, false, List, [], length, Option, Some, None, slice_get}
 use Rattle.rank_range.specs.Layout.{stack_start}
 use Rattle.rank_range.specs.Numbers.{number_at}
 use Rattle.rank_range.specs.Output.{with_text, with_last_line}
@@ -116,3 +116,14 @@ pub record Ran (code : Code) (old : Rank) (budget : ℕ) (old_output new_output 
   pub counted : new.ticks ≡ old.ticks + taken
   pub output : new_output ≡ output_at result (with_text old_output out)
   pub stops : StopsAs code (config_at code old) old_output.printed new taken left out result
+
+-- The host had no memory for the room of one more line, so that nothing was run.
+pub record Unopened (old new : Rank) (old_output new_output : Output) (result : Stop) : Type 0 where
+  pub memory : result ≡ stop.Memory
+  pub rank : new ≡ old
+  pub output : new_output ≡ old_output
+
+-- A rank ran up to `budget` ticks, or nothing was run.
+abbrev pub Gone : Code → Rank → ℕ → Output → Output → Stop → Rank → Type 0
+Gone code old budget old_output new_output result new =
+    Unopened old new old_output new_output result ⊎ Ran code old budget old_output new_output result new

@@ -11,6 +11,7 @@ mod machine;
 mod operands;
 mod plain;
 mod printer;
+mod ranks;
 mod reaching;
 mod records;
 mod run;
@@ -18,4 +19,5 @@ mod step;
 mod stop;
 mod work;
 
+pub use ranks::go;
 pub use stop::Stop;

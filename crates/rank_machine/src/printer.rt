@@ -108,7 +108,9 @@ impl Printer {
 
     /// The output where the rank goes on later.
     pub fn close(self) -> Output
-        ensures { result ≡ self }
+        ensures value { result ≡ self }
+        ensures numbers { result.next + length result.unfinished ≤ result.printed }
+        ensures limit { result.printed ≤ text_limit }
     {
         let Printer {
             printed,
@@ -126,7 +128,9 @@ impl Printer {
 
     /// The output where the rank is ended or trapped: text without a newline is a line. There is room for it.
     pub fn finish(self, alloc: Global) -> Output
-        ensures { result ≡ with_last_line self }
+        ensures value { result ≡ with_last_line self }
+        ensures numbers { result.next + length result.unfinished ≤ result.printed }
+        ensures limit { result.printed ≤ text_limit }
     {
         let Printer {
             printed,
