@@ -55,7 +55,7 @@ never_strands code rank printed taken g s =
 
 -- ---- a run behind a first part that prints nothing
 
-more_ticks : (from : Tally → Config) (one two : ℕ) (tally : Tally) → from (with_ticks (one + two) tally) ≡ from (with_ticks one (with_ticks two tally))
+pub more_ticks : (from : Tally → Config) (one two : ℕ) (tally : Tally) → from (with_ticks (one + two) tally) ≡ from (with_ticks one (with_ticks two tally))
 more_ticks from one two tally =
     let e : one + two + tally.left ≡ one + (two + tally.left) = omega arith in
     ap (λ (n : ℕ). from (record tally { left = n })) e

@@ -14,3 +14,4 @@ pub mod StopLemmas
 pub mod RestLemmas
 pub mod BeginLemmas
 pub mod GoLemmas
+pub mod JoinLemmas

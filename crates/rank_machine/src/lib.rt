@@ -5,6 +5,7 @@ mod access;
 mod begin;
 mod calls;
 mod halt;
+mod laws;
 mod library;
 mod lines;
 mod machine;
@@ -19,5 +20,6 @@ mod step;
 mod stop;
 mod work;
 
+pub use laws::runs_are_joined;
 pub use ranks::go;
 pub use stop::Stop;
