@@ -1,9 +1,9 @@
 -- What an access leaves, told by the areas that it makes.
-use Rattle.std.proofs.Common.{◌≡◌, ℕ, ◌+◌, ◌*◌, ◌<◌, ◌≤◌, ◌∙◌, inl, inr, Bool, List, length, slice_index, refl, sym, ap, subst, arith, Option, Some, None, Result, Ok, Err, OnOk, OnErr}
+use Rattle.std.proofs.Common.{◌≡◌, ℕ, ◌≤◌, ◌∙◌, inl, inr, Bool, List, length, refl, sym, ap, subst, arith, Option, Some, None, Result, Ok, Err, OnOk, OnErr}
 use Rattle.std.specs.Prelude.{option_map, option_and_then, replicate}
 use Rattle.rank_range.specs.Layout.{MarksChanges, IsMarked, page_of, globals_start}
 use Rattle.rank_range.specs.Parts.{StayBeside}
-use Rattle.rank_range.specs.Nodes.{HasHeap, HeapBytesStay, blocks_of}
+use Rattle.rank_range.specs.Nodes.{HasHeap, HeapBytesStay}
 use Rattle.rank_range.specs.Areas.{Areas, Memory, Becomes, areas_of, memory_of, bytes_at, with_bytes_at, copied_at, with_number_of}
 use Rattle.rank_range.specs.Numbers.{bytes_in}
 use Rattle.rank_range.specs.Kinds.{width_of}

@@ -1,6 +1,6 @@
 -- The call of `main`.
-use Rattle.std.proofs.Common.{◌≡◌, ℕ, zero, suc, ◌+◌, ◌*◌, ◌^◌, ◌%◌, ◌<◌, ◌≤◌, ◌∙◌, Bool, true, false, List, [], ◌∷◌, length, take, drop, reverse, refl, sym, ap, subst, arith, Option, Some, None}
-use Rattle.std.specs.Prelude.{if◌then◌else◌, nat_le, nat_lt, slice_get}
+use Rattle.std.proofs.Common.{◌≡◌, ℕ, zero, suc, ◌+◌, ◌^◌, ◌%◌, ◌≤◌, ◌∙◌, true, false, List, [], ◌∷◌, length, take, drop, reverse, refl, sym, ap, subst, arith, Option, Some}
+use Rattle.std.specs.Prelude.{nat_le, nat_lt, slice_get}
 use Rattle.std.proofs.lemmas.Bool.{le-leb}
 use Rattle.std.proofs.lemmas.List.{reverse-reverse, length-reverse, length-take-le}
 use Rattle.rank_range.specs.Layout.{base_of, globals_start, stack_start, range_bytes, IsRange}
@@ -12,10 +12,10 @@ use Rattle.vm_code.specs.declared.instr.Instr.{Instr}
 use Rattle.vm_code.specs.declared.instr.Instr.TheVariants.{Call}
 use Rattle.vm_code.specs.Lines.{place_of}
 use Rattle.vm_code.specs.Memory.{with_arguments, with_frame, stack_top}
-use Rattle.vm_code.specs.Stops.{Trapped, Done}
-use Rattle.vm_code.specs.Machine.{Config, Frame, act}
+use Rattle.vm_code.specs.Stops.{Trapped}
+use Rattle.vm_code.specs.Machine.{Config, act}
 use Rattle.rank_machine.specs.declared.work.Work.{Work}
-use Rattle.rank_machine.specs.View.{Tally, Rank, bottom, words_for, config_before, config_of, frames_of, done_of}
+use Rattle.rank_machine.specs.View.{Tally, bottom, words_for, config_before, config_of, done_of}
 use Rattle.rank_machine.specs.Steps.{Shown, On, Halted, shown}
 use Rattle.rank_machine.specs.Ran.{CallsMain}
 use Rattle.rank_machine.proofs.FrameLemmas.{frame_with}

@@ -1,8 +1,8 @@
 -- A call is entered, and left.
-use Rattle.std.proofs.Common.{◌≡◌, ℕ, zero, suc, ◌+◌, ◌-◌, ◌*◌, ◌^◌, ◌%◌, ◌<◌, ◌≤◌, ◌∙◌, inl, inr, Bool, true, false, List, [], ◌∷◌, length, take, drop, reverse, replicate, refl, sym, ap, subst, arith, add-one, Option, Some, None, Result, Ok, Err, OnOk, OnErr}
+use Rattle.std.proofs.Common.{◌≡◌, ℕ, zero, suc, ◌+◌, ◌-◌, ◌^◌, ◌%◌, ◌<◌, ◌≤◌, ◌∙◌, inl, Bool, true, false, List, [], ◌∷◌, length, take, drop, reverse, replicate, refl, sym, ap, subst, arith, add-one, Option, Some, None, Result, OnOk, OnErr}
 use Rattle.std.specs.Prelude.{if◌then◌else◌, nat_le, nat_lt, slice_get}
 use Rattle.std.proofs.lemmas.Bool.{le-leb, lt-leb}
-use Rattle.rank_range.specs.Layout.{base_of, globals_start, range_bytes, stack_start, IsRange, MarksChanges, Accessible}
+use Rattle.rank_range.specs.Layout.{base_of, range_bytes, stack_start, IsRange, MarksChanges, Accessible}
 use Rattle.rank_range.specs.Parts.{with_part, StayBeside}
 use Rattle.rank_range.specs.Areas.{Memory, memory_of, areas_of}
 use Rattle.rank_range.proofs.ChangeLemmas.{marks_both}
@@ -12,18 +12,17 @@ use Rattle.vm_code.specs.declared.code.Function.{Function}
 use Rattle.vm_code.specs.declared.code.Parameter.{Parameter}
 use Rattle.vm_code.specs.declared.instr.Instr.TheVariants.{Call, Return}
 use Rattle.vm_code.specs.Memory.{with_arguments, with_frame, written_or_kept, stored, address_of, stack_top, cut_to}
-use Rattle.vm_code.specs.Stops.{Done, Ended}
+use Rattle.vm_code.specs.Stops.{Ended}
 use Rattle.rank_range.specs.Kinds.{value_of}
 use Rattle.rank_range.specs.declared.kinds.Kind.TheVariants.{Int}
-use Rattle.vm_code.specs.Machine.{Config, Frame, Moved, Went, Stuck, act, operand_limit, call_limit, left_to, entered, with_top, at_place}
+use Rattle.vm_code.specs.Machine.{Config, Frame, Moved, Went, Stuck, act, operand_limit, call_limit, left_to, with_top, at_place}
 use Rattle.rank_machine.specs.declared.work.Work.{Work}
 use Rattle.rank_machine.specs.declared.halt.Halt.{Halt}
 use Rattle.rank_machine.specs.declared.halt.Halt.TheVariants as halt
-use Rattle.rank_machine.specs.View.{Tally, record_place, in_stack, frame_at, frames_of, bottom, config_of, work_at, done_of}
+use Rattle.rank_machine.specs.View.{Tally, record_place, in_stack, frame_at, frames_of, config_of, done_of}
 use Rattle.rank_machine.specs.Steps.{Kept, Shown, On, Halted, Nowhere, shown, shown_by}
-use Rattle.rank_machine.proofs.FrameLemmas.{frame_with, frames_stand, frames_beside}
-use Rattle.rank_machine.proofs.AccessLemmas.{kept_beside}
-use Rattle.rank_machine.proofs.MemoryLemmas.{frame_pushed, frame_beside, frame_accessible, frame_cut, filled, top_is}
+use Rattle.rank_machine.proofs.FrameLemmas.{frame_with, frames_stand}
+use Rattle.rank_machine.proofs.MemoryLemmas.{frame_pushed, frame_accessible, frame_cut, filled, top_is}
 
 pub kept_both : (r s t : ℕ) (old mid new : List ℕ) (old_marks mid_marks new_marks : ℕ → Bool) → Kept r s old mid old_marks mid_marks
     → Kept s t mid new mid_marks new_marks → Kept r t old new old_marks new_marks

@@ -1,5 +1,5 @@
 -- The records of calls stay where their bytes stay.
-use Rattle.std.proofs.Common.{◌≡◌, ℕ, zero, suc, ◌+◌, ◌*◌, ◌<◌, ◌≤◌, ◌∙◌, inl, inr, List, [], ◌∷◌, length, slice_index, refl, ap, arith}
+use Rattle.std.proofs.Common.{◌≡◌, ℕ, zero, suc, ◌+◌, ◌*◌, ◌<◌, ◌≤◌, ◌∙◌, inl, List, ◌∷◌, slice_index, refl, ap, arith}
 use Rattle.std.specs.Prelude.{min}
 use Rattle.rank_range.specs.Layout.{globals_start}
 use Rattle.rank_range.specs.Numbers.{number_at}

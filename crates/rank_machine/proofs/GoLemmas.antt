@@ -1,26 +1,23 @@
 -- A run of a rank, from its first instruction or from a call on.
-use Rattle.std.proofs.Common.{◌≡◌, ℕ, zero, suc, ◌+◌, ◌-◌, ◌<◌, ◌≤◌, ◌∙◌, Bool, true, false, List, [], ◌∷◌, ◌++◌, length, take, reverse, refl, sym, ap, subst, arith, add-one, append_assoc, length-append, Option, Some, None}
-use Rattle.std.specs.Prelude.{ℤ, if◌then◌else◌, nat_le, slice_get}
-use Rattle.std.proofs.lemmas.Bool.{le-leb, true≢false}
+use Rattle.std.proofs.Common.{◌≡◌, ℕ, zero, suc, ◌+◌, ◌-◌, ◌<◌, ◌≤◌, ◌∙◌, true, List, [], ◌++◌, length, take, reverse, refl, sym, ap, subst, arith, Some}
+use Rattle.std.specs.Prelude.{nat_le, slice_get}
+use Rattle.std.proofs.lemmas.Bool.{le-leb}
 use Rattle.std.proofs.lemmas.List.{append-nil}
 use Rattle.rank_range.specs.declared.run.Output.{Output}
-use Rattle.mpi_types.specs.declared.call.Answer.{Answer}
 use Rattle.am_base.specs.declared.traps.TrapCause.{TrapCause}
 use Rattle.vm_code.specs.declared.code.Code.{Code}
-use Rattle.vm_code.specs.declared.instr.Instr.{Instr}
 use Rattle.vm_code.specs.declared.instr.Instr.TheVariants as instr
-use Rattle.vm_code.specs.Bounded.{is_tick}
 use Rattle.vm_code.specs.Lines.{place_of}
 use Rattle.vm_code.specs.Stops as stops
 use Rattle.vm_code.specs.Stops.{Done}
-use Rattle.vm_code.specs.Machine.{Config, Moved, Went, Stopped, Stuck, act, exec, follow, one_step, Stops, Goes, given}
+use Rattle.vm_code.specs.Machine.{Config, Moved, Went, Stopped, Stuck, act, exec, follow, one_step, given}
 use Rattle.rank_machine.specs.declared.work.Work.{Work}
 use Rattle.rank_machine.specs.declared.stop.Stop.{Stop}
 use Rattle.rank_machine.specs.declared.stop.Stop.TheVariants as stop
-use Rattle.rank_machine.specs.View.{Tally, Rank, words_for, work_at, config_of, config_since, config_before, config_in, config_at, done_of, done_at}
+use Rattle.rank_machine.specs.View.{Tally, Rank, work_at, config_of, config_since, config_before, config_in, config_at, done_of, done_at}
 use Rattle.rank_machine.specs.Steps.{Shown, On, Halted, shown}
 use Rattle.rank_machine.specs.Runs.{with_ticks, run_on, LeadsTo, EndsAs, Strands}
-use Rattle.rank_machine.specs.Ran.{Stands, GoesOn, RanFrom, StopsAs, PausesHere, AtFirst, CallsMain, is_mpi}
+use Rattle.rank_machine.specs.Ran.{GoesOn, RanFrom, StopsAs, AtFirst, is_mpi}
 use Rattle.rank_machine.proofs.LibraryLemmas.{no_text}
 use Rattle.rank_machine.proofs.LedLemmas.{on_went}
 use Rattle.rank_machine.proofs.RunLemmas.{leads_start, halts}
@@ -233,9 +230,9 @@ first_pauses code rank printed budget output none first no_budget =
         leads_start code (config_at code rank) printed,
         refl,
         λ tally.
-        let here = at_first code rank.place rank.depth rank.ticks rank.number rank.top rank.bytes (record tally { left = 0 }) first.place none in
-        subst (λ (c : Config). one_step code c ≡ Stopped stops.Paused c) (sym here)
-        (main_pauses code rank.number rank.top calls.function calls.count rank.bytes (record tally { ticks = rank.ticks }) calls.found (omega (arith, size))),
+            let here = at_first code rank.place rank.depth rank.ticks rank.number rank.top rank.bytes (record tally { left = 0 }) first.place none in
+            subst (λ (c : Config). one_step code c ≡ Stopped stops.Paused c) (sym here)
+            (main_pauses code rank.number rank.top calls.function calls.count rank.bytes (record tally { ticks = rank.ticks }) calls.found (omega (arith, size))),
         ap (λ (p : ℕ). is_mpi (slice_get code.instrs p)) first.place ∙ ap is_mpi calls.found,
       );
     }

@@ -1,9 +1,8 @@
 -- Where an instruction leads, and that a run gets nearer to its end.
 use Rattle.std.proofs.Common.{◌≡◌, ℕ, zero, suc, ◌+◌, ◌-◌, ◌*◌, ◌<◌, ◌≤◌, ◌⊎◌, ◌∙◌, inl, inr, Bool, true, false, List, [], ◌∷◌, length, take, drop, reverse, refl, sym, ap, subst, arith, Option, Some, None, Result, Ok, Err}
 use Rattle.std.specs.Prelude.{if◌then◌else◌, nat_le, nat_lt, nat_eq, slice_get}
-use Rattle.std.proofs.lemmas.Bool.{true≢false, leb-true, cases_lt}
+use Rattle.std.proofs.lemmas.Bool.{true≢false, cases_lt}
 use Rattle.std.proofs.lemmas.Bool.Decides.{leb_tells}
-use Rattle.std.proofs.lemmas.Option.{slice_get_within}
 use Rattle.am_base.specs.declared.traps.TrapCause.{TrapCause}
 use Rattle.rank_range.specs.Areas.{Memory}
 use Rattle.rank_range.specs.Layout.{range_bytes, globals_start}
@@ -18,7 +17,7 @@ use Rattle.vm_code.specs.Memory.{loaded, stored, copied, zeroed, stack_top, addr
 use Rattle.vm_code.specs.Stops.{fits_text, printed}
 use Rattle.vm_code.specs.Library.{LibraryDone, Does, Fails, Exits, library_does}
 use Rattle.vm_code.specs.Machine.{Config, Frame, Moved, Went, Stopped, Stuck, act, go_on, with_top, with_two, with_many, with_result, reading, writing, ticking, entered, left_to, library_done, at_place, with_memory, operand_limit, call_limit, trapped}
-use Rattle.rank_machine.specs.Steps.{Shown, On, is_call_of_mpi, shown}
+use Rattle.rank_machine.specs.Steps.{On, is_call_of_mpi, shown}
 use Rattle.rank_machine.specs.Weight.{distance, weight}
 use Rattle.am_base.specs.declared.traps.TrapCause.TheVariants.{CallDepth, DataStack, TextLimit}
 use Rattle.std.proofs.Math.Nat.{mul-le-mul_right}

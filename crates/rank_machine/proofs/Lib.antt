@@ -15,3 +15,4 @@ pub mod RestLemmas
 pub mod BeginLemmas
 pub mod GoLemmas
 pub mod JoinLemmas
+pub mod AnswerLemmas

@@ -1,5 +1,5 @@
 -- What a call of the library does to a machine.
-use Rattle.std.proofs.Common.{◌≡◌, ℕ, zero, suc, ◌+◌, ◌-◌, ◌*◌, ◌^◌, ◌<◌, ◌≤◌, ◌⊎◌, ◌∙◌, inl, inr, Bool, true, false, List, [], ◌∷◌, ◌++◌, length, take, drop, slice_index, refl, sym, ap, subst, arith, Option, Some, None, Result, Ok, Err, OnOk, OnErr, IfOk}
+use Rattle.std.proofs.Common.{◌≡◌, ℕ, ◌+◌, ◌-◌, ◌*◌, ◌^◌, ◌<◌, ◌≤◌, ◌⊎◌, ◌∙◌, inl, inr, Bool, true, false, List, [], ◌∷◌, ◌++◌, length, take, slice_index, refl, sym, ap, subst, arith, Option, Some, None, Result, Ok, Err, OnOk, OnErr, IfOk}
 use Rattle.std.specs.Prelude.{ℤ, IsTrue, if◌then◌else◌, nat_le, nat_lt, nat_eq, ◌==◌, ◌%◌, codes, replicate}
 use Rattle.std.proofs.lemmas.Bool.{le-leb, lt-leb, true≢false}
 use Rattle.std.proofs.lemmas.Bool.Decides.{eqb_tells}
@@ -9,11 +9,11 @@ use Rattle.am_base.specs.declared.lines.Line.{Line}
 use Rattle.am_base.specs.declared.calls.LibCall.{LibCall}
 use Rattle.am_base.specs.declared.calls.LibCall.TheVariants as lib
 use Rattle.am_base.specs.declared.traps.TrapCause.{TrapCause}
-use Rattle.am_base.specs.declared.traps.TrapCause.TheVariants.{TextLimit, BadFree}
+use Rattle.am_base.specs.declared.traps.TrapCause.TheVariants.{TextLimit}
 use Rattle.rank_range.specs.Layout.{base_of, heap_start, descriptors_start, globals_start, MarksChanges}
-use Rattle.rank_range.specs.Parts.{StayBeside, Keeps}
+use Rattle.rank_range.specs.Parts.{Keeps}
 use Rattle.rank_range.specs.Nodes.{HasHeap, blocks_of}
-use Rattle.rank_range.specs.Heap.{IsFirstFit, first_fit, rounded}
+use Rattle.rank_range.specs.Heap.{first_fit, rounded}
 use Rattle.rank_range.specs.Areas.{Areas, Memory, areas_of, memory_of, take_block, give_block, bytes_from, bytes_at, with_bytes_at, copied_at, text_at}
 use Rattle.rank_range.specs.Output.{text_limit, with_text, lines_behind, part_behind}
 use Rattle.rank_range.specs.Library as library
@@ -29,16 +29,15 @@ use Rattle.c_lib.specs.Answers.{is_made, LeavesTheRest}
 use Rattle.c_lib.specs.Answers as c_lib
 use Rattle.isomalloc.specs.Heap.{BytesStay}
 use Rattle.vm_code.specs.declared.code.Code.{Code}
-use Rattle.vm_code.specs.declared.instr.Instr.TheVariants as instr
 use Rattle.vm_code.specs.Stops.{Done, Ended, Trapped}
-use Rattle.vm_code.specs.Library.{LibraryDone, Does, Fails, Exits, library_does, in_memory, given, given_back}
+use Rattle.vm_code.specs.Library.{LibraryDone, Does, Fails, library_does, in_memory, given, given_back}
 use Rattle.vm_code.specs.Lines.{place_of}
-use Rattle.vm_code.specs.Machine.{Config, Frame, act, go_on, library_done}
+use Rattle.vm_code.specs.Machine.{Frame, go_on, library_done}
 use Rattle.rank_machine.specs.declared.work.Work.{Work}
 use Rattle.rank_machine.specs.declared.halt.Halt.{Halt}
 use Rattle.rank_machine.specs.declared.halt.Halt.TheVariants as halt
 use Rattle.rank_machine.specs.View.{Tally, frames_of, config_of, done_of}
-use Rattle.rank_machine.specs.Steps.{Kept, Shown, Halted, CallsLibrary, Tells, shown, shown_by, where_ok, with_out}
+use Rattle.rank_machine.specs.Steps.{Kept, Shown, Halted, CallsLibrary, Tells, shown, shown_by, with_out}
 use Rattle.rank_machine.proofs.FrameLemmas.{frame_with, frames_stand, frames_beside}
 use Rattle.rank_machine.proofs.AccessLemmas.{seen, kept_beside, kept_same}
 use Rattle.rank_machine.proofs.CallLemmas.{config_with}

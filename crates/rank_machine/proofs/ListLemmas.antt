@@ -1,7 +1,7 @@
 -- The ends of lists that are seen turned round.
 use Rattle.std.specs.Prelude.{slice_get, get_or}
 use Rattle.std.proofs.lemmas.Option.{slice_get_past, slice_get-get_or}
-use Rattle.std.proofs.Common.{◌≡◌, ℕ, ◌+◌, ◌-◌, ◌<◌, ◌≤◌, ◌∙◌, Some, None, List, ◌++◌, length, reverse, take, drop, sym, ap, arith, length-append, length-drop}
+use Rattle.std.proofs.Common.{◌≡◌, ℕ, ◌+◌, ◌-◌, ◌<◌, ◌≤◌, ◌∙◌, Some, None, List, length, reverse, take, drop, sym, ap, arith, length-drop}
 use Rattle.std.proofs.lemmas.List.{take-append-drop, drop-take, take-take, take_at, drop_at, reverse-append, reverse-reverse, length-reverse, length-take-le}
 
 -- the first and the last of a list that is turned round

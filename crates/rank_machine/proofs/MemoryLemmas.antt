@@ -1,19 +1,18 @@
 -- What a change of a rank's bytes is for the memory that its program sees.
-use Rattle.std.proofs.Common.{◌≡◌, ℕ, ◌+◌, ◌-◌, ◌*◌, ◌<◌, ◌≤◌, ◌⊎◌, ◌∙◌, inl, inr, Bool, List, [], ◌∷◌, ◌++◌, length, take, drop, slice_index, replicate, refl, sym, ap, subst, arith, append_assoc, length-append, length-drop, Option, Some, None, Result, Ok, Err, OnOk, OnErr}
+use Rattle.std.proofs.Common.{◌≡◌, ℕ, ◌+◌, ◌-◌, ◌<◌, ◌≤◌, ◌∙◌, inl, inr, List, ◌++◌, length, take, drop, replicate, sym, ap, subst, arith, append_assoc, length-append, length-drop, Option, Result, Ok, Err, OnOk, OnErr}
 use Rattle.std.proofs.lemmas.List.{take-take, drop-take, drop-append-le, take_at, length-take-le, length-replicate}
-use Rattle.rank_range.specs.Layout.{base_of, globals_start, heap_start, stack_start, range_bytes, descriptors_start, IsRange, MarksChanges, Accessible}
+use Rattle.rank_range.specs.Layout.{base_of, globals_start, heap_start, stack_start, range_bytes, IsRange, Accessible}
 use Rattle.rank_range.specs.Parts.{part, with_part, StayBeside}
-use Rattle.rank_range.specs.Nodes.{HeapBytesStay, blocks_of}
+use Rattle.rank_range.specs.Nodes.{blocks_of}
 use Rattle.rank_range.specs.Areas.{Areas, Memory, areas_of, memory_of}
 use Rattle.rank_range.specs.declared.heap.Block.{Block}
 use Rattle.rank_range.proofs.FitLemmas.{blocks_stay}
 use Rattle.rank_range.proofs.AccessLemmas.{areas_alike}
 use Rattle.rank_range.proofs.PartLemmas.{part_length, part_stays, put_beside, put_length}
 use Rattle.vm_code.specs.Memory.{with_frame, cut_to, stack_top, written_or_kept}
-use Rattle.rank_machine.specs.View.{record_place, frames_of}
-use Rattle.rank_machine.specs.Steps.{Kept, where_ok}
-use Rattle.rank_machine.proofs.FrameLemmas.{frames_beside}
-use Rattle.rank_machine.proofs.AccessLemmas.{seen, kept_beside}
+use Rattle.rank_machine.specs.View.{record_place}
+use Rattle.rank_machine.specs.Steps.{where_ok}
+use Rattle.rank_machine.proofs.AccessLemmas.{seen}
 
 same_seen : (a b : Areas) (xs ys : List Block) → a ≡ b → xs ≡ ys → seen a xs ≡ seen b ys
 same_seen a b xs ys areas blocks = ap (λ (z : Areas). seen z xs) areas ∙ ap (seen b) blocks

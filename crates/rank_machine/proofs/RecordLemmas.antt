@@ -1,20 +1,19 @@
 -- A record is read word by word, and written so.
-use Rattle.std.proofs.Common.{◌≡◌, ℕ, zero, suc, ◌+◌, ◌*◌, ◌^◌, ◌<◌, ◌≤◌, ◌⊎◌, ◌∙◌, inl, inr, Bool, true, List, [], ◌∷◌, ◌++◌, length, reverse, take, drop, get_or, refl, sym, ap, arith, add-one}
+use Rattle.std.proofs.Common.{◌≡◌, ℕ, zero, suc, ◌+◌, ◌*◌, ◌^◌, ◌<◌, ◌≤◌, ◌∙◌, inl, inr, Bool, true, List, [], ◌∷◌, ◌++◌, length, reverse, take, get_or, refl, sym, ap, arith, add-one}
 use Rattle.std.specs.Prelude.{min, nat_le, if◌then◌else◌}
 use Rattle.std.proofs.lemmas.Bool.{le-leb}
 use Rattle.std.proofs.lemmas.List.{reverse-append, reverse-reverse}
 use Rattle.std.proofs.lemmas.Grind.{take_at_read}
-use Rattle.rank_range.specs.Layout.{range_bytes, descriptors_start}
 use Rattle.rank_range.specs.Numbers.{number_at, with_number}
 use Rattle.rank_range.specs.Parts.{StayBeside, Keeps}
 use Rattle.rank_range.proofs.NumberLemmas.{loaded_back, length_stays}
 use Rattle.rank_range.proofs.ChangeLemmas.{beside_one, beside_both, beside_more, number_stays, keeps_both, keeps_none}
-use Rattle.vm_code.specs.Machine.{Frame, operand_limit}
+use Rattle.vm_code.specs.Machine.{operand_limit}
 use Rattle.rank_machine.specs.View.{record_place, words_at, in_stack, frame_at}
 use Rattle.rank_machine.specs.Steps.{Kept}
 use Rattle.rank_machine.specs.Records.{HasHead}
 use Rattle.rank_machine.specs.declared.records.Head.{Head}
-use Rattle.rank_machine.proofs.FrameLemmas.{Same, words_stand, frame_with, same_frame}
+use Rattle.rank_machine.proofs.FrameLemmas.{words_stand, frame_with, same_frame}
 use Rattle.rank_machine.proofs.AccessLemmas.{heap_stays}
 
 pub length_words : (bytes : List ℕ) (at k : ℕ) → length (words_at bytes at k) ≡ k

@@ -1,15 +1,13 @@
 -- A rank at rest is the machine that was run.
-use Rattle.std.proofs.Common.{◌≡◌, ℕ, zero, suc, ◌+◌, ◌-◌, ◌%◌, ◌^◌, ◌<◌, ◌≤◌, ◌∙◌, inl, inr, Bool, true, false, List, [], ◌∷◌, ◌++◌, length, take, drop, reverse, refl, sym, ap, subst, arith, add-one, Option, Some, None}
-use Rattle.std.specs.Prelude.{ℤ, if◌then◌else◌, nat_le, slice_get}
+use Rattle.std.proofs.Common.{◌≡◌, ℕ, suc, ◌+◌, ◌-◌, ◌^◌, ◌<◌, ◌≤◌, ◌∙◌, inl, Bool, true, false, List, [], ◌++◌, length, take, drop, reverse, refl, sym, ap, subst, arith, add-one, Option, Some, None}
+use Rattle.std.specs.Prelude.{nat_le, slice_get}
 use Rattle.std.proofs.lemmas.Bool.{le-leb, true≢false}
 use Rattle.std.proofs.lemmas.Option.{slice_get_within}
-use Rattle.am_base.specs.declared.traps.TrapCause.{TrapCause}
 use Rattle.am_base.specs.declared.calls.MpiCall.{MpiCall}
-use Rattle.rank_range.specs.Layout.{IsRange, stack_start}
+use Rattle.rank_range.specs.Layout.{stack_start}
 use Rattle.rank_range.specs.Numbers.{number_at}
 use Rattle.rank_range.specs.Areas.{Memory, memory_of}
 use Rattle.rank_range.specs.Parts.{StayBeside}
-use Rattle.rank_range.specs.Output.{with_text}
 use Rattle.rank_range.specs.declared.run.Output.{Output}
 use Rattle.rank_range.specs.declared.run.CallOut.{CallOut}
 use Rattle.mpi_types.specs.declared.call.Call.{Call}
@@ -20,16 +18,16 @@ use Rattle.vm_code.specs.Bounded.{is_tick}
 use Rattle.vm_code.specs.Lines.{place_of}
 use Rattle.vm_code.specs.Stops as stops
 use Rattle.vm_code.specs.Stops.{Done}
-use Rattle.vm_code.specs.Machine.{Config, Frame, Moved, Went, Stopped, Stuck, act, exec, one_step, Stops}
+use Rattle.vm_code.specs.Machine.{Config, Frame, Stopped, act, exec, one_step}
 use Rattle.rank_machine.specs.declared.work.Work.{Work}
 use Rattle.rank_machine.specs.declared.halt.Halt.TheVariants as halt
 use Rattle.rank_machine.specs.declared.halt.Rest.{Rest}
 use Rattle.rank_machine.specs.declared.halt.Rest.TheVariants as rest
 use Rattle.rank_machine.specs.declared.stop.Stop.{Stop}
 use Rattle.rank_machine.specs.declared.stop.Stop.TheVariants as stop
-use Rattle.rank_machine.specs.View.{Tally, Rank, record_place, in_stack, frame_at, frames_of, work_at, config_of, config_since, config_in, config_at, done_of, done_at}
+use Rattle.rank_machine.specs.View.{Tally, Rank, record_place, in_stack, frame_at, frames_of, config_of, config_since, config_in, config_at, done_of, done_at}
 use Rattle.rank_machine.specs.Steps.{is_call_of_mpi}
-use Rattle.rank_machine.specs.Runs.{with_ticks, run_on, LeadsTo, EndsAs, Strands, AtTick, AtCall, RestsAs, CameToRest, arguments_of}
+use Rattle.rank_machine.specs.Runs.{run_on, LeadsTo, EndsAs, Strands, AtTick, RestsAs, CameToRest, arguments_of}
 use Rattle.rank_machine.specs.Told.{Tells, NeedsCall, TellsCall}
 use Rattle.rank_machine.specs.Ran.{Stands, RanFrom, StopsAs, PausesHere, WaitsHere, goes_on, is_mpi, call_of}
 use Rattle.rank_machine.proofs.FrameLemmas.{frame_with, frames_stand}
@@ -240,8 +238,7 @@ stopped_so code from work rank from_top top ticks printed left from_bytes bytes 
     let small = small_place code work.place at.instr at.found in
     let is = settled.config (ap goes_on tells) small in
     let same = settled.place small in
-    subst (λ (s : Stop). StopsAs code (config_since from rank from_top from_bytes ticks) printed new taken left out s) (sym tells)
-    (
+    subst (λ (s : Stop). StopsAs code (config_since from rank from_top from_bytes ticks) printed new taken left out s) (sym tells) (
       leads_since code from work rank from_top top ticks printed taken from_bytes bytes out new settled.counted is rested.0,
       rested.1,
       pauses_here code work rank top bytes new is at,
@@ -253,8 +250,7 @@ stopped_so code from work rank from_top top ticks printed left from_bytes bytes 
     let small : work.place < 2 ^ 32 = omega (arith, within, short) in
     let is = settled.config (ap goes_on tells) small in
     let same = settled.place small in
-    subst (λ (s : Stop). StopsAs code (config_since from rank from_top from_bytes ticks) printed new taken left out s) (sym tells)
-    (
+    subst (λ (s : Stop). StopsAs code (config_since from rank from_top from_bytes ticks) printed new taken left out s) (sym tells) (
       leads_since code from work rank from_top top ticks printed taken from_bytes bytes out new settled.counted is rested.0,
       ap (λ (p : ℕ). is_tick (slice_get code.instrs p)) same ∙ rested.1,
     )
@@ -262,8 +258,7 @@ stopped_so code from work rank from_top top ticks printed left from_bytes bytes 
     let at = rested.1 in
     let small = small_place code work.place _ at.found in
     let is = settled.config refl small in
-    let same = settled.place small in
-    (
+    let same = settled.place small in (
       leads_since code from work rank from_top top ticks printed taken from_bytes bytes out new settled.counted is rested.0,
       waits_here code work rank top bytes new call is tells,
       ap (λ (p : ℕ). is_mpi (slice_get code.instrs p)) same ∙ ap is_mpi at.found,
@@ -274,8 +269,7 @@ stopped_so code from work rank from_top top ticks printed left from_bytes bytes 
     let at = rested.1 in
     let small = small_place code work.place _ at.found in
     let is = settled.config refl small in
-    let same = settled.place small in
-    (
+    let same = settled.place small in (
       leads_since code from work rank from_top top ticks printed taken from_bytes bytes out new settled.counted is rested.0,
       ap (λ (p : ℕ). is_tick (slice_get code.instrs p)) same ∙ ap is_tick at.found,
     )

@@ -1,11 +1,10 @@
 -- A run of the machine, instruction by instruction.
-use Rattle.std.proofs.Common.{◌≡◌, ℕ, zero, suc, ◌+◌, ◌-◌, ◌*◌, ◌<◌, ◌≤◌, ◌⊎◌, ◌∙◌, inl, inr, Bool, true, false, List, [], ◌∷◌, ◌++◌, length, refl, sym, ap, subst, arith, append_assoc, length-append, Option, Some, None}
-use Rattle.std.specs.Prelude.{ℤ, if◌then◌else◌, nat_le, slice_get, replicate}
+use Rattle.std.proofs.Common.{◌≡◌, ℕ, suc, ◌+◌, ◌-◌, ◌<◌, ◌≤◌, ◌⊎◌, ◌∙◌, inl, inr, Bool, true, false, List, [], ◌++◌, length, refl, sym, ap, subst, arith, append_assoc, length-append, Option, Some, None}
+use Rattle.std.specs.Prelude.{nat_le, slice_get, replicate}
 use Rattle.std.proofs.Math.Logic.{∥∥₁_elim}
 use Rattle.std.proofs.Math.Bridge.{le_prop}
 use Rattle.std.proofs.lemmas.Bool.{lt-leb, true≢false}
 use Rattle.std.proofs.lemmas.List.{append-nil, length-replicate}
-use Rattle.am_base.specs.declared.traps.TrapCause.{TrapCause}
 use Rattle.rank_range.specs.Output.{with_text}
 use Rattle.rank_range.specs.Areas.{Memory, memory_of}
 use Rattle.rank_range.specs.declared.run.Output.{Output}
@@ -16,7 +15,7 @@ use Rattle.vm_code.specs.declared.instr.Instr.TheVariants as instr
 use Rattle.vm_code.specs.Bounded.{is_tick, LoopsTick}
 use Rattle.vm_code.specs.Lines.{place_of}
 use Rattle.vm_code.specs.Stops.{Stop, Ended, Trapped, Done}
-use Rattle.vm_code.specs.Machine.{Config, Frame, Moved, Went, Stopped, Stuck, act, exec, follow, one_step, Stops, call_limit}
+use Rattle.vm_code.specs.Machine.{Config, Frame, Moved, Went, Stopped, Stuck, act, exec, follow}
 use Rattle.rank_machine.specs.declared.work.Work.{Work}
 use Rattle.rank_machine.specs.declared.halt.Halt.{Halt}
 use Rattle.rank_machine.specs.declared.halt.Halt.TheVariants as halt
@@ -24,12 +23,12 @@ use Rattle.rank_machine.specs.declared.halt.Rest.{Rest}
 use Rattle.rank_machine.specs.declared.halt.Rest.TheVariants as rest
 use Rattle.rank_machine.specs.View.{Tally, config_of, done_of, frames_of}
 use Rattle.rank_machine.specs.Steps.{Shown, On, Halted, Nowhere, Advanced, shown, shown_by, before, behind, with_out, is_call_of_mpi}
-use Rattle.rank_machine.specs.Runs.{with_ticks, run_on, LeadsTo, EndsAs, Strands, AtTick, AtCall, CameToRest, RestsHere, arguments_of, ticks_in}
+use Rattle.rank_machine.specs.Runs.{with_ticks, run_on, LeadsTo, EndsAs, Strands, AtCall, CameToRest, RestsHere, arguments_of, ticks_in}
 use Rattle.rank_machine.specs.Weight.{weight}
 use Rattle.rank_machine.proofs.CallLemmas.{callers_count, config_with}
 use Rattle.rank_machine.proofs.LibraryLemmas.{no_text}
 use Rattle.rank_machine.proofs.FrameLemmas.{frame_with}
-use Rattle.rank_machine.proofs.LedLemmas.{on_went, Leads, Between, led_between, few_behind, ticked_falls, left_falls, nearer_falls}
+use Rattle.rank_machine.proofs.LedLemmas.{on_went, Leads, led_between, few_behind, ticked_falls, left_falls, nearer_falls}
 
 -- ---- one more instruction
 

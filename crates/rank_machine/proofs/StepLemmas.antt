@@ -1,21 +1,20 @@
 -- One instruction, by what its function does.
-use Rattle.std.proofs.Common.{◌≡◌, ℕ, suc, ◌+◌, ◌<◌, ◌≤◌, ◌∙◌, Bool, true, false, List, [], ◌++◌, length, take, drop, reverse, refl, sym, ap, arith, Option, Some, None, Result, Ok, Err, IfOk}
-use Rattle.std.specs.Prelude.{if◌then◌else◌, nat_le}
+use Rattle.std.proofs.Common.{◌≡◌, ℕ, suc, ◌+◌, ◌<◌, ◌≤◌, ◌∙◌, Bool, true, false, List, [], length, take, drop, reverse, refl, sym, ap, Option, Some, Result, Ok, Err, IfOk}
+use Rattle.std.specs.Prelude.{nat_le}
 use Rattle.std.proofs.lemmas.Bool.{le-leb, lt-leb}
 use Rattle.std.proofs.lemmas.List.{append-nil}
 use Rattle.am_base.specs.declared.calls.LibCall.{LibCall}
-use Rattle.rank_range.specs.Areas.{memory_of}
 use Rattle.rank_range.specs.declared.run.Output.{Output}
 use Rattle.vm_code.specs.declared.code.Code.{Code}
 use Rattle.vm_code.specs.declared.instr.Instr.{Instr}
 use Rattle.vm_code.specs.declared.instr.Instr.TheVariants.{Tick, Library}
 use Rattle.vm_code.specs.Bounded.{is_tick}
-use Rattle.vm_code.specs.Machine.{Config, act, operand_limit}
+use Rattle.vm_code.specs.Machine.{act, operand_limit}
 use Rattle.rank_machine.specs.declared.work.Work.{Work}
 use Rattle.rank_machine.specs.declared.halt.Halt.{Halt}
 use Rattle.rank_machine.specs.declared.halt.Halt.TheVariants as halt
 use Rattle.rank_machine.specs.View.{Tally, config_of}
-use Rattle.rank_machine.specs.Steps.{Shown, On, Nowhere, Advanced, CallsLibrary, shown, shown_by, before, behind, with_out}
+use Rattle.rank_machine.specs.Steps.{On, Advanced, CallsLibrary, shown, shown_by, before, behind, with_out}
 use Rattle.rank_machine.proofs.LibraryLemmas.{no_text}
 
 -- the same machine, where nothing was printed

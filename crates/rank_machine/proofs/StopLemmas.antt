@@ -1,11 +1,10 @@
 -- What is told of a machine at rest.
-use Rattle.std.proofs.Common.{◌≡◌, ℕ, ◌≤◌, ◌∙◌, List, length, take, reverse, sym, ap, subst, Some}
+use Rattle.std.proofs.Common.{◌≡◌, ℕ, ◌≤◌, ◌∙◌, List, length, sym, ap, subst, Some}
 use Rattle.std.specs.Prelude.{Bool, slice_get}
 use Rattle.am_base.specs.declared.calls.MpiCall.{MpiCall}
 use Rattle.vm_code.specs.declared.code.Code.{Code}
 use Rattle.vm_code.specs.declared.instr.Instr.{Instr}
 use Rattle.vm_code.specs.declared.instr.Instr.TheVariants.{Mpi}
-use Rattle.rank_machine.specs.declared.work.Work.{Work}
 use Rattle.rank_machine.specs.Runs.{AtCall}
 
 same_mpi : (c d : MpiCall) (n m : ℕ) (s t : Bool) → Some (Mpi c n s) ≡ Some (Mpi d m t) → n ≡ m

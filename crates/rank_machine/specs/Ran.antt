@@ -1,5 +1,5 @@
 -- What a run of a rank up to so many ticks did.
-use Rattle.std.specs.Prelude.{ℕ, suc, ◌≡◌, ◌+◌, ◌≤◌, ◌⊎◌, Bool, true, false, List, [], length, Option, Some, None, slice_get}
+use Rattle.std.specs.Prelude.{ℕ, suc, ◌≡◌, ◌+◌, ◌≤◌, ◌⊎◌, Bool, true, false, List, [], length, Option, Some, slice_get}
 use Rattle.rank_range.specs.Layout.{stack_start}
 use Rattle.rank_range.specs.Numbers.{number_at}
 use Rattle.rank_range.specs.Output.{with_text, with_last_line}
@@ -13,7 +13,7 @@ use Rattle.vm_code.specs.declared.instr.Instr.TheVariants as instr
 use Rattle.vm_code.specs.Bounded.{is_tick}
 use Rattle.vm_code.specs.Lines.{place_of}
 use Rattle.vm_code.specs.Stops as stops
-use Rattle.vm_code.specs.Machine.{Config, Moved, Stopped, Goes, one_step}
+use Rattle.vm_code.specs.Machine.{Config, Stopped, Goes, one_step}
 use Rattle.rank_machine.specs.View.{Tally, Rank, record_place, config_at, done_at}
 use Rattle.rank_machine.specs.Runs.{LeadsTo, EndsAs}
 use Rattle.rank_machine.specs.declared.stop.Stop.{Stop}

@@ -9,11 +9,10 @@ use Rattle.vm_code.specs.declared.instr.Instr.TheVariants as instr
 use Rattle.vm_code.specs.Bounded.{is_tick}
 use Rattle.vm_code.specs.Lines.{place_of}
 use Rattle.vm_code.specs.Stops.{Stop, Ended, Trapped, Done}
-use Rattle.vm_code.specs.Machine.{Config, Stopped, Stuck, exec, Stops}
+use Rattle.vm_code.specs.Machine.{Config, Stuck, exec, Stops}
 use Rattle.rank_machine.specs.View.{Tally, config_of, done_of}
 use Rattle.rank_machine.specs.Steps.{is_call_of_mpi}
 use Rattle.rank_machine.specs.declared.work.Work.{Work}
-use Rattle.rank_machine.specs.declared.halt.Halt.{Halt}
 use Rattle.rank_machine.specs.declared.halt.Halt.TheVariants as halt
 use Rattle.rank_machine.specs.declared.halt.Rest.{Rest}
 use Rattle.rank_machine.specs.declared.halt.Rest.TheVariants as rest

@@ -1,6 +1,6 @@
 -- A rank's bytes and registers as the machine that its code runs on: the records of its calls in the control stack, the areas of
 -- its memory and the live blocks of its heap. The layout is this profile's own.
-use Rattle.std.specs.Prelude.{ℕ, zero, suc, ◌+◌, ◌*◌, ◌^◌, ◌%◌, List, [], ◌∷◌, ◌++◌, Option, Some, None, min, max, reverse, take, slice_get}
+use Rattle.std.specs.Prelude.{ℕ, zero, suc, ◌+◌, ◌*◌, ◌^◌, ◌%◌, List, [], ◌∷◌, Option, Some, min, max, reverse, take, slice_get}
 use Rattle.rank_range.specs.Layout.{base_of, globals_start, stack_start}
 use Rattle.rank_range.specs.Numbers.{number_at}
 use Rattle.rank_range.specs.Areas.{memory_of}

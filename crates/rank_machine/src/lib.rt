@@ -2,6 +2,7 @@
 #![tactic(auto)]
 
 mod access;
+mod answers;
 mod begin;
 mod calls;
 mod halt;
@@ -20,6 +21,7 @@ mod step;
 mod stop;
 mod work;
 
+pub use answers::answer;
 pub use laws::runs_are_joined;
 pub use ranks::go;
 pub use stop::Stop;

@@ -19,7 +19,11 @@ pub fn line_of(code: &Code, place: u64) -> Line
 {
     lines_are_told_before();
     let instrs = code.instrs.as_slice();
-    let mut at = if place < instrs.len() as u64 { place as usize } else { instrs.len() };
+    let mut at = if place < instrs.len() as u64 {
+        place as usize
+    } else {
+        instrs.len()
+    };
     while at > 0 {
         at -= 1;
         if let Some(line) = told(instrs[at]) {

@@ -10,11 +10,11 @@ ghost use Rattle.rank_machine.specs.Runs.{Strands};
 ghost use Rattle.rank_machine.specs.Told.{Tells, NeedsCall};
 ghost use Rattle.rank_machine.specs.Ran.{Stands, GoesOn, RanFrom, goes_on};
 
-use crate::halt::{Halt, Rest};
-use crate::printer::Printer;
 use crate::begin::begin;
+use crate::halt::{Halt, Rest};
 use crate::lines::{Line, line_of};
 use crate::operands::Operands;
+use crate::printer::Printer;
 use crate::records::{put_back, take_out};
 use crate::run::run;
 use crate::stop::{Stop, stop_of};
@@ -93,7 +93,7 @@ fn go_first<M: Mem>(
 }
 
 /// No call yet.
-fn empty_work(place: u32) -> Work
+pub fn empty_work(place: u32) -> Work
     ensures place { result.place ≡ place }
     ensures number { result.number ≡ 0 }
 {

@@ -41,7 +41,14 @@ pub fn go<M: Mem>(alloc: Global, st: &mut Regs, m: &mut M, code: &Code, budget: 
 }
 
 /// Runs a rank that prints so.
-fn go_on<M: Mem>(alloc: Global, st: &mut Regs, m: &mut M, code: &Code, mut printer: Printer, budget: u64) -> Stop
+fn go_on<M: Mem>(
+    alloc: Global,
+    st: &mut Regs,
+    m: &mut M,
+    code: &Code,
+    mut printer: Printer,
+    budget: u64,
+) -> Stop
     requires goes { GoesOn code.now (record { place = st.old.position; depth = st.old.depth; ticks = st.old.ticks; number = M.rank_of m.old; top = M.top_of m.old; bytes = M.bytes_of m.old }) printer.printed }
     requires stands { Stands code.now (record { place = st.old.position; depth = st.old.depth; ticks = st.old.ticks; number = M.rank_of m.old; top = M.top_of m.old; bytes = M.bytes_of m.old }) }
     requires heap { HasHeap (M.rank_of m.old) (M.bytes_of m.old) }

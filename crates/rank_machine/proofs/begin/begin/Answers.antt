@@ -1,9 +1,8 @@
-use Rattle.std.proofs.Common.{◌≡◌, ◌≤◌, ◌<◌, ◌+◌, ◌^◌, ℕ, List, Some, ◌∙◌, refl, sym, ap, subst, arith, length, true, false}
-use Rattle.std.specs.Prelude.{not, slice_get}
+use Rattle.std.proofs.Common.{◌≡◌, ◌<◌, ◌∙◌, refl, ap, arith, length}
+use Rattle.std.specs.Prelude.{not}
 use Rattle.std.proofs.lemmas.Option.{slice_get_within}
 use Rattle.rank_machine.proofs.ListLemmas.{got}
 use Rattle.rank_machine.proofs.BeginLemmas.{first_few, callee_there, main_too_large, main_goes_in, given_words, new_work}
-use Rattle.rank_machine.proofs.begin.begin.Given.{Over}
 use Rattle.rank_machine.proofs.begin.begin.Goals as goal
 
 pub returns-then-not-fits-clause-trapped : goal.returns-then-not-fits-clause-trapped

@@ -1,4 +1,4 @@
-use Rattle.std.proofs.Common.{◌≡◌, ◌+◌, ◌≤◌, ℕ, ◌∙◌, ap, sym, length, arith}
+use Rattle.std.proofs.Common.{◌∙◌, ap, arith}
 use Rattle.std.specs.Prelude.{not}
 use Rattle.rank_machine.proofs.ListLemmas.{got, got_none}
 use Rattle.rank_machine.proofs.CallLemmas.{call_lost_count, call_lost_function, call_too_deep, call_too_large, call_goes_in}

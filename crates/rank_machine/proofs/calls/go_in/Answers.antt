@@ -1,10 +1,8 @@
-use Rattle.std.proofs.Common.{◌≡◌, ◌≤◌, ◌+◌, ℕ, List, ◌∙◌, ap, subst, sym, refl, arith, take, drop, reverse}
-use Rattle.rank_range.specs.Areas.{Memory, memory_of}
+use Rattle.std.proofs.Common.{◌≤◌, ◌+◌, ℕ, ◌∙◌, ap, sym, arith, drop}
 use Rattle.rank_range.specs.Layout.{stack_start}
-use Rattle.vm_code.specs.Memory.{with_frame, with_arguments}
 use Rattle.rank_machine.specs.View.{in_stack}
 use Rattle.rank_machine.proofs.FrameLemmas.{frame_with}
-use Rattle.rank_machine.proofs.CallLemmas.{callers_are, kept_both}
+use Rattle.rank_machine.proofs.CallLemmas.{callers_are}
 use Rattle.rank_machine.proofs.calls.go_in.Goals as goal
 
 pub returns-clause-callers : goal.returns-clause-callers

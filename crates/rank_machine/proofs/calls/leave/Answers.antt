@@ -1,4 +1,4 @@
-use Rattle.std.proofs.Common.{◌≡◌, ℕ, List, ◌-◌, suc, rules, ap, ◌∙◌, sym, arith, to_z, of_z, w32}
+use Rattle.std.proofs.Common.{◌≡◌, ℕ, List, ◌-◌, rules, ap, ◌∙◌, arith, to_z, of_z, w32}
 use Rattle.std.specs.Prelude.{ℤ}
 use Rattle.rank_range.specs.Layout.{stack_start}
 use Rattle.rank_range.specs.Kinds.{value_of}

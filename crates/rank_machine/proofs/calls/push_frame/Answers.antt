@@ -1,5 +1,5 @@
-use Rattle.std.proofs.Common.{◌≡◌, ◌≤◌, ◌+◌, ◌-◌, ◌∙◌, ap, subst, sym, refl, replicate, arith}
-use Rattle.rank_range.specs.Layout.{base_of, globals_start, range_bytes, stack_start, Accessible, IsRange}
+use Rattle.std.proofs.Common.{◌≡◌, ◌+◌, ◌-◌, ◌∙◌, ap, subst, sym, replicate, arith}
+use Rattle.rank_range.specs.Layout.{base_of, range_bytes, Accessible, IsRange}
 use Rattle.rank_range.specs.Parts.{with_part}
 use Rattle.rank_machine.proofs.FrameLemmas.{frames_beside}
 use Rattle.rank_machine.proofs.AccessLemmas.{kept_beside}

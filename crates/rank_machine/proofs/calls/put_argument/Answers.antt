@@ -1,4 +1,4 @@
-use Rattle.std.proofs.Common.{◌+◌, ◌%◌, ◌^◌, ℕ, ◌∙◌, ap, sym}
+use Rattle.std.proofs.Common.{ℕ, ◌∙◌, ap, sym}
 use Rattle.vm_code.specs.Memory.{stored}
 use Rattle.rank_range.specs.Areas.{memory_of}
 use Rattle.rank_machine.proofs.MemoryLemmas.{stored_or_kept}

@@ -1,5 +1,5 @@
 use Rattle.std.proofs.lemmas.List.{drop_more}
-use Rattle.rank_machine.proofs.CallLemmas.{stored_none, stored_more, stored_parameters, stored_words}
+use Rattle.rank_machine.proofs.CallLemmas.{stored_none, stored_more, stored_words}
 use Rattle.rank_machine.proofs.calls.put_arguments.Goals as goal
 
 pub loop-i-init : goal.loop-i-init

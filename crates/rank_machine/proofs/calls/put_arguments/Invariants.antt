@@ -1,5 +1,4 @@
 use Rattle.std.proofs.Common.{◌-◌, length}
-use Rattle.std.specs.Prelude.{min}
 use Rattle.rank_machine.proofs.CallLemmas.{Stored}
 use Rattle.rank_machine.proofs.calls.put_arguments.Given as goal
 

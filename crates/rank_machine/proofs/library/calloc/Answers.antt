@@ -1,4 +1,4 @@
-use Rattle.std.proofs.Common.{◌≡◌, ◌+◌, ◌≤◌, arith, refl, length, []}
+use Rattle.std.proofs.Common.{arith, []}
 use Rattle.rank_machine.proofs.LibraryLemmas.{does, calloc_does, no_text}
 use Rattle.rank_machine.proofs.library.calloc.Goals as goal
 

@@ -1,4 +1,4 @@
-use Rattle.std.proofs.Common.{◌≡◌, ◌+◌, ◌≤◌, ℕ, List, ap, ◌∙◌, arith, refl, length, []}
+use Rattle.std.proofs.Common.{ap, arith, []}
 use Rattle.rank_range.specs.Areas.{memory_of}
 use Rattle.rank_machine.proofs.LibraryLemmas.{does, fails, free_does, no_text}
 use Rattle.rank_machine.proofs.library.free.Goals as goal

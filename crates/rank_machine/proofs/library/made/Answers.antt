@@ -1,4 +1,4 @@
-use Rattle.std.proofs.Common.{◌≡◌, ◌<◌, ℕ, List, ◌∷◌, [], ◌∙◌, ap, take, length, arith}
+use Rattle.std.proofs.Common.{ap, length, arith}
 use Rattle.rank_machine.proofs.LibraryLemmas.{padded_is, tells_by, three_taken}
 use Rattle.rank_machine.proofs.library.made.Goals as goal
 

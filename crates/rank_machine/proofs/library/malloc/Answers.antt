@@ -1,4 +1,4 @@
-use Rattle.std.proofs.Common.{◌≡◌, ◌+◌, ◌≤◌, arith, refl, length, []}
+use Rattle.std.proofs.Common.{arith, []}
 use Rattle.rank_machine.proofs.LibraryLemmas.{does, malloc_does, no_text}
 use Rattle.rank_machine.proofs.library.malloc.Goals as goal
 

@@ -1,5 +1,5 @@
-use Rattle.std.proofs.Common.{◌≡◌, ℕ, List, ◌+◌, ◌<◌, ◌≤◌, sym, ap, subst, ◌∙◌, arith, length}
-use Rattle.vm_code.specs.Library.{LibraryDone, Does, Fails, library_does}
+use Rattle.std.proofs.Common.{ℕ, List, sym, ap, subst, ◌∙◌, arith}
+use Rattle.vm_code.specs.Library.{Fails, library_does}
 use Rattle.rank_range.specs.Areas.{memory_of}
 use Rattle.std.proofs.Common.{Err}
 use Rattle.rank_range.specs.declared.run.LibStop.{LibStop}

@@ -1,4 +1,4 @@
-use Rattle.std.proofs.Common.{◌≡◌, ◌<◌, ◌≤◌, ◌-◌, ℕ, Some, None, sym, ap, length, arith}
+use Rattle.std.proofs.Common.{◌<◌, ◌-◌, ap, length, arith}
 use Rattle.rank_machine.proofs.ListLemmas.{found_at}
 use Rattle.rank_machine.proofs.LineLemmas.{past_end, same_here, one_before, told_here, first_line}
 use Rattle.rank_machine.proofs.lines.line_of.Goals as goal

@@ -1,4 +1,4 @@
-use Rattle.std.proofs.Common.{◌≡◌, ◌+◌, ◌<◌, ◌≤◌, ◌-◌, suc, ℕ, ◌∙◌, refl, sym, ap, subst, arith}
+use Rattle.std.proofs.Common.{◌+◌, ℕ, refl, ap, subst, arith}
 use Rattle.rank_machine.specs.declared.lines.Line.{Line}
 use Rattle.rank_machine.specs.View.{config_since}
 use Rattle.rank_machine.specs.Runs.{Strands}

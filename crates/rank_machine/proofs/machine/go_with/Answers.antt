@@ -1,4 +1,4 @@
-use Rattle.std.proofs.Common.{◌≡◌, ◌<◌, ◌≤◌, ◌-◌, suc, ℕ, ◌∙◌, refl, sym, ap, subst, arith}
+use Rattle.std.proofs.Common.{◌-◌, ℕ, ◌∙◌, ap, subst, arith}
 use Rattle.vm_code.specs.Machine.{Config}
 use Rattle.rank_machine.specs.View.{Tally, work_at}
 use Rattle.rank_machine.specs.Runs.{Strands}

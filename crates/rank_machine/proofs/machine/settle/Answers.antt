@@ -1,6 +1,5 @@
-use Rattle.std.proofs.Common.{◌≡◌, ◌+◌, ◌<◌, ◌%◌, ◌^◌, ℕ, ◌∙◌, refl, sym, ap, subst, arith, true, false}
+use Rattle.std.proofs.Common.{◌+◌, ◌%◌, ℕ, ◌∙◌, sym, ap, arith}
 use Rattle.rank_machine.specs.View.{config_at}
-use Rattle.rank_machine.specs.Ran.{Stands}
 use Rattle.rank_machine.proofs.RestLemmas.{rank_with, at_rest, stands_again}
 use Rattle.rank_machine.proofs.machine.settle.Goals as goal
 

@@ -1,4 +1,4 @@
-use Rattle.std.proofs.Common.{◌≡◌, ◌+◌, ◌-◌, ◌≤◌, ◌<◌, ◌^◌, ℕ, List, ◌∙◌, refl, sym, ap, subst, arith}
+use Rattle.std.proofs.Common.{◌≡◌, ◌+◌, ◌-◌, ℕ, ◌∙◌, sym, ap, subst}
 use Rattle.rank_range.specs.Areas.{memory_of}
 use Rattle.rank_machine.specs.View.{config_at, config_since}
 use Rattle.rank_machine.specs.Ran.{Stands}

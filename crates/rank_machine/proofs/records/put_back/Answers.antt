@@ -1,5 +1,4 @@
-use Rattle.std.proofs.Common.{◌≡◌, ◌+◌, ◌∙◌, ℕ, refl, sym, ap, subst, length, arith, drop}
-use Rattle.vm_code.specs.Machine.{Frame}
+use Rattle.std.proofs.Common.{◌+◌, ◌∙◌, ℕ, refl, sym, ap, subst, length, arith, drop}
 use Rattle.rank_range.specs.Numbers.{number_at}
 use Rattle.rank_range.specs.Parts.{StayBeside}
 use Rattle.rank_range.proofs.ChangeLemmas.{keeps_both}

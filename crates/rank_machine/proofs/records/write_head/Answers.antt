@@ -1,4 +1,4 @@
-use Rattle.std.proofs.Common.{◌+◌, ◌≤◌, length, arith}
+use Rattle.std.proofs.Common.{◌+◌, arith}
 use Rattle.rank_range.proofs.ChangeLemmas.{keeps_one, keeps_both}
 use Rattle.rank_machine.proofs.RecordLemmas.{Puts, HeadPut, puts_length, head_is, head_beside}
 use Rattle.rank_machine.proofs.records.write_head.Given.{Over}

@@ -1,4 +1,4 @@
-use Rattle.std.proofs.Common.{◌<◌, ◌≤◌, ◌+◌, ◌*◌, ◌∙◌, length, arith}
+use Rattle.std.proofs.Common.{◌≤◌, ◌+◌, ◌*◌, length, arith}
 use Rattle.rank_range.proofs.ChangeLemmas.{keeps_one}
 use Rattle.rank_machine.proofs.RecordLemmas.{written_more}
 use Rattle.rank_machine.proofs.records.write_words.Goals as goal

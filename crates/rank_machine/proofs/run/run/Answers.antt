@@ -1,7 +1,5 @@
-use Rattle.std.proofs.Common.{◌≡◌, ◌<◌, ◌≤◌, ◌+◌, ◌-◌, ℕ, Option, Some, None, refl, sym, ap, ◌∙◌, subst, arith, length, false}
-use Rattle.std.specs.Prelude.{slice_get}
+use Rattle.std.proofs.Common.{◌≡◌, ◌<◌, ◌≤◌, ℕ, refl, subst, arith, length}
 use Rattle.std.proofs.lemmas.Option.{slice_get_past}
-use Rattle.vm_code.specs.Bounded.{is_tick}
 use Rattle.rank_range.specs.Areas.{memory_of}
 use Rattle.rank_machine.proofs.ListLemmas.{found_at}
 use Rattle.rank_machine.proofs.RunLemmas.{going_start, going_more, came_halted, halted_at, came_past, came_resting, came_memory, took_is, moves, number_after, falls, owned}

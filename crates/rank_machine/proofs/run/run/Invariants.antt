@@ -1,5 +1,4 @@
 use Rattle.std.proofs.Common.{◌<◌}
-use Rattle.rank_range.specs.Nodes.{HasHeap}
 use Rattle.rank_machine.specs.View.{config_of}
 use Rattle.rank_machine.specs.Steps.{Kept}
 use Rattle.rank_machine.specs.Weight.{weight}

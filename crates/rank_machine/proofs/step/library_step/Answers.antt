@@ -1,4 +1,4 @@
-use Rattle.std.proofs.Common.{◌<◌, ◌≤◌, length, arith}
+use Rattle.std.proofs.Common.{arith}
 use Rattle.rank_machine.proofs.StepLemmas.{library_lost, library_all}
 use Rattle.rank_machine.proofs.CallLemmas.{kept_none}
 use Rattle.rank_machine.proofs.step.library_step.Goals as goal

@@ -1,4 +1,4 @@
-use Rattle.std.proofs.Common.{refl, ◌≤◌, length, arith}
+use Rattle.std.proofs.Common.{refl, arith}
 use Rattle.rank_machine.proofs.StepLemmas.{tick_on}
 use Rattle.rank_machine.proofs.step.tick.Goals as goal
 

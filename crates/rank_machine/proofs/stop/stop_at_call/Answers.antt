@@ -1,8 +1,8 @@
-use Rattle.std.proofs.Common.{◌≡◌, ◌<◌, ◌≤◌, ℕ, Some, None, refl, sym, ap, ◌∙◌, length, arith}
+use Rattle.std.proofs.Common.{◌<◌, Some, ap, ◌∙◌, length}
 use Rattle.std.proofs.lemmas.Option.{slice_get_within}
 use Rattle.rank_machine.specs.declared.lines.Line.{Line}
 use Rattle.rank_machine.proofs.ListLemmas.{found_at}
-use Rattle.rank_machine.proofs.StopLemmas.{enough_for, is_there}
+use Rattle.rank_machine.proofs.StopLemmas.{enough_for}
 use Rattle.rank_machine.proofs.stop.stop_at_call.Goals as goal
 
 pub top-words-requires : goal.top-words-requires

@@ -1,4 +1,4 @@
-use Rattle.std.proofs.Common.{◌+◌, ◌≤◌, List, ◌++◌, refl, ap, ◌∙◌, arith}
+use Rattle.std.proofs.Common.{List, ◌++◌, refl, ap, ◌∙◌, arith}
 use Rattle.am_base.specs.declared.lines.Line.{Line}
 use Rattle.rank_range.specs.declared.run.Output.{Output}
 use Rattle.rank_range.specs.Output.{with_text}
