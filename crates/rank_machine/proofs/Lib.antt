@@ -16,3 +16,4 @@ pub mod BeginLemmas
 pub mod GoLemmas
 pub mod JoinLemmas
 pub mod AnswerLemmas
+pub mod BegunLemmas

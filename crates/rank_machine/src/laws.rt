@@ -1,5 +1,6 @@
-//! What holds of runs one behind another.
+//! What holds of runs one behind another, and of a rank before its first one.
 
+ghost use Rattle.rank_machine.specs.Begun.{BeginAtStart};
 ghost use Rattle.rank_machine.specs.Joined.{AreJoined, GoOnAsOne};
 
 use rank_range::lines_are_the_cut;
@@ -11,3 +12,8 @@ pub fn runs_are_joined()
 {
     lines_are_the_cut();
 }
+
+/// A rank before its first instruction is the machine at its start.
+pub fn ranks_begin_at_start()
+    ensures { BeginAtStart }
+{}

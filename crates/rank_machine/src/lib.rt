@@ -22,6 +22,6 @@ mod stop;
 mod work;
 
 pub use answers::answer;
-pub use laws::runs_are_joined;
+pub use laws::{ranks_begin_at_start, runs_are_joined};
 pub use ranks::go;
 pub use stop::Stop;
