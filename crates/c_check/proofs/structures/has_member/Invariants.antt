@@ -1,6 +1,0 @@
-use Rattle.std.proofs.Common.{◌≡◌, drop}
-use Rattle.c_check.specs.Structures.{has_member}
-use Rattle.c_check.proofs.structures.has_member.Given as goal
-
-abbrev pub invariant-loop-member : goal.invariant-loop-member
-invariant-loop-member l = has_member (drop l.member-index l.members) l.name ≡ has_member l.members l.name

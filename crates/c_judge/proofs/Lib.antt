@@ -1,0 +1,5 @@
+mod ExprTrees
+mod TypeTrees
+mod Turns
+mod TypeSteps
+mod Pointers

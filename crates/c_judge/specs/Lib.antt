@@ -1,0 +1,15 @@
+pub mod Broken
+pub mod Words
+pub mod Shapes
+pub mod Sight
+pub mod Headers
+pub mod Naming
+pub mod State
+pub mod Expressions
+pub mod Gathered
+pub mod Structures
+pub mod Constants
+pub mod Scopes
+pub mod Parameters
+pub mod Judging
+pub mod Parts

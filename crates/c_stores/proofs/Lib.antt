@@ -1,0 +1,6 @@
+mod SpotLemmas
+mod TextLemmas
+mod StateLemmas
+mod InitTrees
+mod DealLemmas
+mod WithinLemmas
