@@ -9,3 +9,5 @@ pub mod EndLemmas
 pub mod CountLemmas
 pub mod JoinLemmas
 pub mod NumberLemmas
+pub mod ArrayLemmas
+pub mod WaitLemmas

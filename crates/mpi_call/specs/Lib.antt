@@ -7,3 +7,4 @@ pub mod Held
 pub mod Counts
 pub mod Served
 pub mod Numbers
+pub mod Arrays

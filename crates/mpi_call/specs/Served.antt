@@ -64,12 +64,12 @@ is_collective call.Allgather = true
 is_collective call.Alltoall = true
 is_collective call.Migrate = true
 
--- Which calls `finish` serves: the second tick of a receive, Wait and Test.
+-- Which calls `finish` serves: the second tick of a receive, Wait, Waitall and Test.
 abbrev pub is_finished : MpiCall → Bool
 is_finished call.Recv = true
 is_finished call.Wait = true
 is_finished call.Test = true
-is_finished call.Waitall = false
+is_finished call.Waitall = true
 is_finished call.Init = false
 is_finished call.Initialized = false
 is_finished call.Finalized = false

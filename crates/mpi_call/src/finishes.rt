@@ -10,7 +10,9 @@ ghost use Rattle.mpi_call.specs.Served.{is_finished, is_receive};
 ghost use Rattle.mpi_call.specs.Written.{Leaves};
 
 use crate::done::{CallStop, Done, Finished};
+use crate::numbers::int_at;
 use crate::places::write_all;
+use crate::waitall::waitall;
 use crate::waits::{received, test, wait};
 use am_base::MpiCall;
 use mpi_types::{MatchBook, MpiState};
@@ -33,6 +35,7 @@ fn finished<M: Mem, B: MatchBook>(
     match call {
         MpiCall::Recv => received(alloc, st, m, words[6]),
         MpiCall::Wait => wait(alloc, st, m, words[0], words[1]),
+        MpiCall::Waitall => waitall(alloc, st, m, &int_at(words, 0), words[1], words[2]),
         MpiCall::Test => match test(alloc, st, m, words[0], words[1], words[2]) {
             Ok(done) => Ok(Some(done)),
             Err(stop) => Err(stop),
@@ -41,7 +44,7 @@ fn finished<M: Mem, B: MatchBook>(
     }
 }
 
-/// Ends a call, where it can be answered now: the second tick of a receive, Wait or Test. What it gives, and what it leaves, is
+/// Ends a call, where it can be answered now: the second tick of a receive, Wait, Waitall or Test. What it gives, and what it leaves, is
 /// exactly what the rules say of it (`reply` of `mpi_rules`).
 ///
 /// # Errors

@@ -1,6 +1,7 @@
 //! The calls of MPI on one rank: what is wrong with a call, what it gives, and what it leaves (MPI 3.1).
 #![tactic(auto)]
 
+mod arrays;
 mod begins;
 mod counts;
 mod decoding;
@@ -16,6 +17,7 @@ mod own;
 mod places;
 mod requests;
 mod state;
+mod waitall;
 mod waits;
 
 pub use begins::begin;
