@@ -37,7 +37,7 @@ and_true : (b : Bool) → (b && true) ≡ b
 and_true true = refl
 and_true false = refl
 
-body_open : (areas : Areas) (a : ℕ) (bytes : List ℕ) → are_open areas (write_of a bytes) ≡ is_open areas a (length bytes)
+pub body_open : (areas : Areas) (a : ℕ) (bytes : List ℕ) → are_open areas (write_of a bytes) ≡ is_open areas a (length bytes)
 body_open areas a [] = sym (none_open areas a)
 body_open areas a (b ∷ bytes) = and_true (is_open areas a (length (b ∷ bytes)))
 

@@ -11,3 +11,4 @@ pub mod JoinLemmas
 pub mod NumberLemmas
 pub mod ArrayLemmas
 pub mod WaitLemmas
+pub mod GatherLemmas

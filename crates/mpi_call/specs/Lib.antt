@@ -8,3 +8,4 @@ pub mod Counts
 pub mod Served
 pub mod Numbers
 pub mod Arrays
+pub mod Gathers

@@ -16,6 +16,7 @@ mod numbers;
 mod own;
 mod places;
 mod requests;
+mod shares;
 mod state;
 mod waitall;
 mod waits;
