@@ -12,3 +12,4 @@ pub mod NumberLemmas
 pub mod ArrayLemmas
 pub mod WaitLemmas
 pub mod GatherLemmas
+pub mod ReadyLemmas

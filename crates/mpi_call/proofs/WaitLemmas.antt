@@ -56,7 +56,7 @@ array_open areas mpi count requests none =
     not_false (is_open areas requests (count_of count * 4))
     (all_pass (not (is_running mpi.own.phase)) (not (is_open areas requests (count_of count * 4))) false none).1
 
-elements_length : (count : ℕ) (bytes : List ℕ) → length (elements_of 4 count bytes) ≡ count
+pub elements_length : (count : ℕ) (bytes : List ℕ) → length (elements_of 4 count bytes) ≡ count
 elements_length zero bytes = refl
 elements_length (suc count) bytes = ap suc (elements_length count _)
 

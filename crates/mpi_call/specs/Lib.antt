@@ -9,3 +9,4 @@ pub mod Served
 pub mod Numbers
 pub mod Arrays
 pub mod Gathers
+pub mod Ready

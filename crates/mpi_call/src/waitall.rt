@@ -29,7 +29,12 @@ use rank_range::Mem;
 use std::alloc::{AllocError, Global};
 
 /// What is looked at before the numbers.
-fn array_faults<M: Mem, B: MatchBook>(st: &MpiState<B>, m: &M, count: &i32, requests: u64) -> Faults
+pub fn array_faults<M: Mem, B: MatchBook>(
+    st: &MpiState<B>,
+    m: &M,
+    count: &i32,
+    requests: u64,
+) -> Faults
     ensures { result ≡ arrays.array_faults (areas_of (M.rank_of m.now) (M.top_of m.now) (M.bytes_of m.now)) (data_in (kept st.now.own st.now.sweep (B.held st.now.book))) count.now requests }
 {
     Faults {

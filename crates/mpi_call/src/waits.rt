@@ -66,7 +66,11 @@ fn variable_faults<M: Mem, B: MatchBook>(st: &MpiState<B>, m: &M, at: u64) -> Fa
 }
 
 /// The number that the variable holds, where nothing is wrong with it.
-fn held_request<M: Mem, B: MatchBook>(st: &MpiState<B>, m: &M, at: u64) -> Result<u32, TrapCause>
+pub fn held_request<M: Mem, B: MatchBook>(
+    st: &MpiState<B>,
+    m: &M,
+    at: u64,
+) -> Result<u32, TrapCause>
     ensures ok { IfOk result (λ n. IsHeld (areas_of (M.rank_of m.now) (M.top_of m.now) (M.bytes_of m.now)) (data_in (kept st.now.own st.now.sweep (B.held st.now.book))) at n) }
     ensures err { IfErr result (λ why. Some why ≡ cause_of (words.variable_faults (areas_of (M.rank_of m.now) (M.top_of m.now) (M.bytes_of m.now)) (data_in (kept st.now.own st.now.sweep (B.held st.now.book))) at)) }
 {
