@@ -24,3 +24,4 @@ pub mod Covering
 pub mod Least
 pub mod Generating
 pub mod Answering
+pub mod Beginning

@@ -84,7 +84,7 @@ module _ (object : ℕ → ℕ) where
   sized_function f = sized_if f.body
 
   -- where a function stands in the code
-  found : (code : Code) (fs : List Function) (place end number : ℕ) (f : Function) → slice_get fs number ≡ Some f
+  pub found : (code : Code) (fs : List Function) (place end number : ℕ) (f : Function) → slice_get fs number ≡ Some f
       → Spans (Stands code) place (functions_part object fs) end
       → (first : ℕ) × (slice_get (entries_from object place fs) number ≡ Some (entry_at first f.body)) × (after : ℕ) × Spans (Stands code) first (function_part object f) after
   found code [] place end number f e sp = absurd (cc (e))

@@ -19,8 +19,8 @@ use c_types::{Main, Program};
 use draft::Draft;
 pub use error::GenError;
 pub use laws::{
-    laid_out_code_is_bounded, laid_out_code_means_its_program, refusals_are_answered,
-    some_answer_is_there,
+    laid_out_code_begins_with_main, laid_out_code_is_bounded, laid_out_code_means_its_program,
+    refusals_are_answered, some_answer_is_there,
 };
 use rank_range::Segment;
 use std::alloc::Global;

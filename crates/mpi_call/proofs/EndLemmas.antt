@@ -37,7 +37,7 @@ and_true : (b : Bool) → (b && true) ≡ b
 and_true true = refl
 and_true false = refl
 
-body_open : (areas : Areas) (a : ℕ) (bytes : List ℕ) → are_open areas (write_of a bytes) ≡ is_open areas a (length bytes)
+pub body_open : (areas : Areas) (a : ℕ) (bytes : List ℕ) → are_open areas (write_of a bytes) ≡ is_open areas a (length bytes)
 body_open areas a [] = sym (none_open areas a)
 body_open areas a (b ∷ bytes) = and_true (is_open areas a (length (b ∷ bytes)))
 
@@ -46,10 +46,10 @@ status_open areas a s =
     elim (a == 0) as (λ b. are_open areas (cond b [] (write_at a (status_bytes s) ∷ [])) ≡ (b || is_open areas a 16))
     [ true ↦ refl | false ↦ and_true (is_open areas a 16) ]
 
-both_open : (areas : Areas) (xs ys : List Write) → are_open areas (xs ++ ys) ≡ (are_open areas xs && are_open areas ys)
+pub both_open : (areas : Areas) (xs ys : List Write) → are_open areas (xs ++ ys) ≡ (are_open areas xs && are_open areas ys)
 both_open areas xs ys = list_all-append (λ w. is_open areas w.address (length w.bytes)) xs ys
 
-came_open : (areas : Areas) (c : Came) (variable more : List Write) (status : ℕ) → are_open areas variable ≡ true
+pub came_open : (areas : Areas) (c : Came) (variable more : List Write) (status : ℕ) → are_open areas variable ≡ true
     → are_open areas (came_writes c variable more status)
     ≡ (is_open areas c.buffer (length c.body) && (are_open areas more && (status == 0 || is_open areas status 16)))
 came_open areas c variable more status open_is =

@@ -9,3 +9,7 @@ pub mod EndLemmas
 pub mod CountLemmas
 pub mod JoinLemmas
 pub mod NumberLemmas
+pub mod ArrayLemmas
+pub mod WaitLemmas
+pub mod GatherLemmas
+pub mod ReadyLemmas

@@ -1,12 +1,16 @@
 -- The state in which a call may be made.
-use Rattle.std.specs.Prelude.{ℕ, ◌≡◌, ◌+◌, ◌-◌, ◌^◌, ◌<◌, ◌≤◌, true, None, is_some, length, All}
+use Rattle.std.specs.Prelude.{ℕ, ◌≡◌, ◌+◌, ◌-◌, ◌^◌, ◌<◌, ◌≤◌, true, Option, Some, None, List, is_some, length, All}
 use Rattle.am_base.specs.declared.calls.MpiCall.{MpiCall}
+use Rattle.mpi_types.specs.declared.argument.Joined.{Joined}
 use Rattle.mpi_types.specs.declared.argument.Sweep.{Sweep}
+use Rattle.mpi_types.specs.declared.collective.Collective.{Collective}
 use Rattle.mpi_types.specs.declared.lists.BookLists.{BookLists}
 use Rattle.mpi_types.specs.declared.state.OwnData.{OwnData}
 use Rattle.mpi_types.specs.Book.{IsLive, IsNext, IsOrderly}
+use Rattle.mpi_rules.specs.Collectives.{collective_args}
 use Rattle.mpi_rules.specs.Data.{complete_of, data_of, is_live, place_among}
-use Rattle.mpi_call.specs.Served.{is_receive}
+use Rattle.mpi_call.specs.Gathers.{MayEnd}
+use Rattle.mpi_call.specs.Served.{is_receive, collective_of}
 
 -- how many ranks there may be
 abbrev pub most_ranks : ℕ
@@ -38,9 +42,15 @@ pub record MayBegin (rank : ℕ) (own : OwnData) (sweep : Sweep) (lists : BookLi
   pub take : MayTake own lists
   pub idle : sweep.joined ≡ None
 
--- The state in which a rank may end a call. Before the second tick of a receive its request is live, directly below the next
--- number.
-pub record MayFinish (call : MpiCall) (own : OwnData) (sweep : Sweep) (lists : BookLists) : Type 0 where
+-- what is known of what was joined, if the call is a collective
+abbrev pub MayEndCall : Option Collective → OwnData → List ℕ → Option Joined → Type 0
+MayEndCall None own words joined = Unit {0}
+MayEndCall (Some kind) own words joined = MayEnd kind own (collective_args kind words).comm joined
+
+-- The state in which a rank may end a call with these arguments. Before the second tick of a receive its request is live, directly
+-- below the next number. Before that of a collective the list that was gathered is one of the communicator's members.
+pub record MayFinish (call : MpiCall) (words : List ℕ) (own : OwnData) (sweep : Sweep) (lists : BookLists) : Type 0 where
   pub apart : AreApart own lists
   pub some : is_receive call ≡ true → 1 < own.next
   pub live : is_receive call ≡ true → is_live (data_of own sweep lists) (own.next - 1) ≡ true
+  pub gathered : MayEndCall (collective_of call) own words sweep.joined

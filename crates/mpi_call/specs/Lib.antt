@@ -7,3 +7,6 @@ pub mod Held
 pub mod Counts
 pub mod Served
 pub mod Numbers
+pub mod Arrays
+pub mod Gathers
+pub mod Ready

@@ -63,7 +63,7 @@ fn has_flag<M: Mem>(m: &M, flag: Option<u64>) -> bool
     }
 }
 
-fn push_variable(
+pub fn push_variable(
     alloc: Global,
     writes: &mut Sequence<Write>,
     variable: Option<u64>,
@@ -140,7 +140,7 @@ pub fn end_request<M: Mem, B: MatchBook>(
 }
 
 /// A complete request ends; `MPI_REQUEST_NULL` has no bytes and doesn't end.
-fn take<B: MatchBook>(alloc: Global, st: &mut MpiState<B>, number: u32) -> Bytes
+pub fn take<B: MatchBook>(alloc: Global, st: &mut MpiState<B>, number: u32) -> Bytes
     requires live { number ≢ 0 → data_words.is_live (data_in (kept st.old.own st.old.sweep (B.held st.old.book))) number ≡ true }
     requires apart { AreApart st.old.own (B.held st.old.book) }
     requires done { is_some (words.came_of (data_in (kept st.old.own st.old.sweep (B.held st.old.book))) number) ≡ true }

@@ -36,7 +36,7 @@ fn is_same_arg(a: &Arg, b: &Arg) -> bool
 }
 
 /// Whether the rank's own argument stands in the list as the rank gave it.
-fn has_own(own: &Arg, list: &[Arg]) -> bool
+pub fn has_own(own: &Arg, list: &[Arg]) -> bool
     ensures { result ≡ words.has_own own.now list.now }
 {
     if list.is_empty() {
@@ -63,7 +63,7 @@ fn split_args(alloc: Global, list: &[Arg]) -> Result<Vec<SplitArg>, AllocError>
 }
 
 /// The group of a new communicator, if the rank is in one.
-fn group_made(
+pub fn group_made(
     alloc: Global,
     kind: Collective,
     g: &Group,
@@ -106,7 +106,7 @@ fn is_taken(number: usize, list: &[Communicator]) -> bool
 
 /// The least number from 2 on that no communicator has.
 #[tactic(auto, unfolding(mpi_rules::specs::Collectives::new_number))]
-fn new_number(list: &[Communicator]) -> u8
+pub fn new_number(list: &[Communicator]) -> u8
     requires { length list.now < 64 }
     ensures { result ≡ words.new_number list.now }
 {
@@ -132,7 +132,7 @@ fn place_for(number: u8, list: &[Communicator]) -> usize
 }
 
 /// One more communicator, at its place by number.
-fn with_communicator(
+pub fn with_communicator(
     list: Sequence<Communicator>,
     new: Communicator,
 ) -> Result<Sequence<Communicator>, AllocError>

@@ -1,6 +1,7 @@
 //! The calls of MPI on one rank: what is wrong with a call, what it gives, and what it leaves (MPI 3.1).
 #![tactic(auto)]
 
+mod arrays;
 mod begins;
 mod counts;
 mod decoding;
@@ -14,10 +15,14 @@ mod messages;
 mod numbers;
 mod own;
 mod places;
+mod ready;
 mod requests;
+mod shares;
 mod state;
+mod waitall;
 mod waits;
 
 pub use begins::begin;
 pub use done::{Began, CallStop, Finished};
 pub use finishes::finish;
+pub use ready::answerable;

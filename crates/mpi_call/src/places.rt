@@ -79,6 +79,18 @@ pub fn push_number(
     writes.push(Write { address, bytes })
 }
 
+/// A write of an int behind others.
+pub fn push_int(
+    alloc: Global,
+    writes: &mut Sequence<Write>,
+    address: u64,
+    number: &i32,
+) -> Result<(), AllocError>
+    ensures { OnOk result (writes.new ≡ writes.old ++ places.int_write address number.now ∷ []) }
+{
+    push_number(alloc, writes, address, number.cast_unsigned())
+}
+
 /// Bytes are written, where there are any.
 pub fn push_bytes(
     writes: &mut Sequence<Write>,

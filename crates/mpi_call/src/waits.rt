@@ -48,7 +48,7 @@ pub fn received<M: Mem, B: MatchBook>(
     }
 }
 
-fn is_request<B: MatchBook>(st: &MpiState<B>, number: u32) -> bool
+pub fn is_request<B: MatchBook>(st: &MpiState<B>, number: u32) -> bool
     ensures { result ≡ words.is_request (data_in (kept st.now.own st.now.sweep (B.held st.now.book))) number }
 {
     number == 0 || is_live(st, number)
@@ -66,7 +66,11 @@ fn variable_faults<M: Mem, B: MatchBook>(st: &MpiState<B>, m: &M, at: u64) -> Fa
 }
 
 /// The number that the variable holds, where nothing is wrong with it.
-fn held_request<M: Mem, B: MatchBook>(st: &MpiState<B>, m: &M, at: u64) -> Result<u32, TrapCause>
+pub fn held_request<M: Mem, B: MatchBook>(
+    st: &MpiState<B>,
+    m: &M,
+    at: u64,
+) -> Result<u32, TrapCause>
     ensures ok { IfOk result (λ n. IsHeld (areas_of (M.rank_of m.now) (M.top_of m.now) (M.bytes_of m.now)) (data_in (kept st.now.own st.now.sweep (B.held st.now.book))) at n) }
     ensures err { IfErr result (λ why. Some why ≡ cause_of (words.variable_faults (areas_of (M.rank_of m.now) (M.top_of m.now) (M.bytes_of m.now)) (data_in (kept st.now.own st.now.sweep (B.held st.now.book))) at)) }
 {
@@ -77,7 +81,7 @@ fn held_request<M: Mem, B: MatchBook>(st: &MpiState<B>, m: &M, at: u64) -> Resul
 }
 
 /// What the request of the number has, if it is complete: 0 is `MPI_REQUEST_NULL`.
-fn came_of<B: MatchBook>(st: &MpiState<B>, number: u32) -> Option<Sizes>
+pub fn came_of<B: MatchBook>(st: &MpiState<B>, number: u32) -> Option<Sizes>
     requires { number ≢ 0 → data_words.is_live (data_in (kept st.now.own st.now.sweep (B.held st.now.book))) number ≡ true }
     ensures { result ≡ option_map (λ c. sizes.sizes_of c) (words.came_of (data_in (kept st.now.own st.now.sweep (B.held st.now.book))) number) }
 {

@@ -24,10 +24,10 @@ use Rattle.rank_machine.proofs.CallLemmas.{config_with}
 use Rattle.rank_machine.proofs.RestLemmas.{rank_with, at_rest}
 use Rattle.rank_machine.proofs.GoLemmas.{from_is}
 
-abbrev the_call : MpiCall → ℕ → Bool → List ℕ → Call
+abbrev pub the_call : MpiCall → ℕ → Bool → List ℕ → Call
 the_call call count second operands = record { name = call; args = reverse (take count operands); second = second }
 
-half : (code : Code) (call : MpiCall) (count : ℕ) (second : Bool) (work : Work) (rank top left : ℕ) (bytes : List ℕ) (tally : Tally) (answers : List Answer)
+pub half : (code : Code) (call : MpiCall) (count : ℕ) (second : Bool) (work : Work) (rank top left : ℕ) (bytes : List ℕ) (tally : Tally) (answers : List Answer)
     → count ≤ length work.operands
     → act code (Some (instr.Mpi call count second)) (config_of work rank top bytes (record tally { left = suc left; answers = Half ∷ answers }))
     ≡ Went (config_of (after_answer count second None work) rank top bytes
@@ -36,7 +36,7 @@ unfolding act
 half code call count second work rank top left bytes tally answers enough =
     let t : nat_le count (length work.operands) ≡ true = le-leb count (length work.operands) enough in rw t refl
 
-done_value : (code : Code) (call : MpiCall) (count : ℕ) (second : Bool) (v : ℤ) (work : Work) (rank top left : ℕ) (bytes : List ℕ) (tally : Tally)
+pub done_value : (code : Code) (call : MpiCall) (count : ℕ) (second : Bool) (v : ℤ) (work : Work) (rank top left : ℕ) (bytes : List ℕ) (tally : Tally)
     (answers : List Answer) (before : Memory) (writes : List Write) → count ≤ length work.operands → length (drop count work.operands) < operand_limit
     → written_all before writes ≡ memory_of rank top bytes
     → act code (Some (instr.Mpi call count second))

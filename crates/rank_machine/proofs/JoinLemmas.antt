@@ -21,7 +21,7 @@ run_further one two out more tally =
     ap (λ (text : List ℕ). record tally { text = text; ticks = tally.ticks + one + two }) (append_assoc tally.text out more)
     ∙ ap (λ (n : ℕ). record tally { text = tally.text ++ (out ++ more); ticks = n }) e
 
-longer : (printed one : ℕ) (out : List ℕ) (tally : Tally) → length tally.text ≡ printed → length (run_on one out tally).text ≡ printed + length out
+pub longer : (printed one : ℕ) (out : List ℕ) (tally : Tally) → length tally.text ≡ printed → length (run_on one out tally).text ≡ printed + length out
 longer printed one out tally size = length-append tally.text out ∙ ap (λ (n : ℕ). n + length out) size
 
 leads_joined : (code : Code) (from mid to : Tally → Config) (printed one two : ℕ) (out more : List ℕ) → LeadsTo code from mid printed one out
@@ -66,7 +66,7 @@ stops_joined code from mid printed new one two left out more stop.Memory first s
     (leads_joined code from mid (config_at code new) printed one two out more first s.0, s.1)
 
 -- where a run that goes on later leads
-leads_on : (code : Code) (from : Tally → Config) (printed : ℕ) (new : Rank) (taken left : ℕ) (out : List ℕ) (halt : Stop) → goes_on halt ≡ true
+pub leads_on : (code : Code) (from : Tally → Config) (printed : ℕ) (new : Rank) (taken left : ℕ) (out : List ℕ) (halt : Stop) → goes_on halt ≡ true
     → StopsAs code from printed new taken left out halt → LeadsTo code from (config_at code new) printed taken out
 leads_on code from printed new taken left out (stop.Ended status) on s = absurd (true≢false (sym on))
 leads_on code from printed new taken left out (stop.Trap cause unit line) on s = absurd (true≢false (sym on))
@@ -75,7 +75,7 @@ leads_on code from printed new taken left out (stop.Call call) on s = s.0
 leads_on code from printed new taken left out stop.Memory on s = s.0
 
 -- what is printed there
-output_on : (halt : Stop) (output : Output) → goes_on halt ≡ true → output_at halt output ≡ output
+pub output_on : (halt : Stop) (output : Output) → goes_on halt ≡ true → output_at halt output ≡ output
 output_on (stop.Ended status) output on = absurd (true≢false (sym on))
 output_on (stop.Trap cause unit line) output on = absurd (true≢false (sym on))
 output_on stop.Paused output on = refl

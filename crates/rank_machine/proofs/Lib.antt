@@ -17,3 +17,5 @@ pub mod GoLemmas
 pub mod JoinLemmas
 pub mod AnswerLemmas
 pub mod BegunLemmas
+pub mod OpeningLemmas
+pub mod OnwardLemmas

@@ -196,7 +196,7 @@ needs_call code from work rank from_top top ticks from_bytes bytes old_output ou
 needs_call code from work rank from_top top ticks from_bytes bytes old_output output budget left rest.Memory came alive = tt
 needs_call code from work rank from_top top ticks from_bytes bytes old_output output budget left rest.Calls came alive = came.rests_as.1
 
-small_place : (code : Code) (place : ℕ) (i : Instr) → slice_get code.instrs place ≡ Some i → place < 2 ^ 32
+pub small_place : (code : Code) (place : ℕ) (i : Instr) → slice_get code.instrs place ≡ Some i → place < 2 ^ 32
 small_place code place i found =
     let within = slice_get_within code.instrs place i found in
     let short = code.short in

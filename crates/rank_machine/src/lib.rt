@@ -10,6 +10,7 @@ mod laws;
 mod library;
 mod lines;
 mod machine;
+mod opening;
 mod operands;
 mod plain;
 mod printer;
@@ -22,6 +23,10 @@ mod stop;
 mod work;
 
 pub use answers::answer;
-pub use laws::{ranks_begin_at_start, runs_are_joined};
+pub use laws::{
+    answers_are_taken, answers_lead_on, fresh_ranks_run, ranks_begin_at_start, runs_are_joined,
+    runs_lead_on,
+};
+pub use opening::open;
 pub use ranks::go;
 pub use stop::Stop;
