@@ -336,10 +336,10 @@ live_before lists new keep m posted matched (inr pair) =
     (any_filter (λ p. p.receive.request == m) keep lists.matched
     (any_tested (λ p. p.receive.request) (filter keep lists.matched) m (subst (λ (xs : List MatchedPair). Any (λ p. p.receive.request ≡ m) xs) matched pair))))
 
-abbrev lists_with : MpiData → List Message → BookLists
+abbrev pub lists_with : MpiData → List Message → BookLists
 lists_with mpi arrived = record { posted = mpi.posted; matched = mpi.matched; arrived = arrived }
 
-apart_without : (k : Kept) (n : ℕ) (arrived : List Message) → AreApart k.own k.lists
+pub apart_without : (k : Kept) (n : ℕ) (arrived : List Message) → AreApart k.own k.lists
     → AreApart (without n (data_in k)).own (lists_with (without n (data_in k)) arrived)
 unfolding without
 apart_without k n arrived apart =

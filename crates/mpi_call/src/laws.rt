@@ -1,0 +1,8 @@
+//! What holds from call to call.
+
+ghost use Rattle.mpi_call.specs.InOrder.{StayInOrder};
+
+/// A law: the requests of a rank stay in order where a call ends.
+pub fn ended_calls_keep_requests_in_order()
+    ensures { StayInOrder }
+{}
