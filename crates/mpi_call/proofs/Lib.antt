@@ -14,3 +14,4 @@ pub mod WaitLemmas
 pub mod GatherLemmas
 pub mod ReadyLemmas
 pub mod OrderLemmas
+pub mod TakenLemmas

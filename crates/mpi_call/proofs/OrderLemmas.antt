@@ -63,7 +63,7 @@ made_ordered mpi (Some g) arrived o =
 
 -- ---- what is given
 
-given_of : (o : Option TrapCause) (r : Reply) (done : Done) (old new : Kept) → DoesGive (unless o r) done old new → DoesGive r done old new
+pub given_of : (o : Option TrapCause) (r : Reply) (done : Done) (old new : Kept) → DoesGive (unless o r) done old new → DoesGive r done old new
 given_of None r done old new h = h
 given_of (Some why) r done old new h = absurd h
 

@@ -26,5 +26,5 @@ mod waits;
 pub use begins::begin;
 pub use done::{Began, CallStop, Finished};
 pub use finishes::finish;
-pub use laws::ended_calls_keep_requests_in_order;
+pub use laws::{begun_receives_may_finish, ended_calls_keep_requests_in_order};
 pub use ready::answerable;
