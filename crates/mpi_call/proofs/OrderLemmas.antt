@@ -1,8 +1,7 @@
 -- The requests of a rank stay in order where a call ends.
-use Rattle.std.proofs.Common.{◌≡◌, ℕ, ◌<◌, ◌==◌, not, Bool, true, false, cond, List, [], ◌∷◌, refl, sym, subst, Option, Some, None}
-use Rattle.std.specs.Prelude.{ℤ, pos, slice_index}
+use Rattle.std.proofs.Common.{ℕ, ◌<◌, ◌==◌, not, true, false, cond, List, [], ◌∷◌, sym, subst, Option, Some, None}
+use Rattle.std.specs.Prelude.{ℤ, slice_index}
 use Rattle.std.proofs.lemmas.List.Elements.{All-filter}
-use Rattle.am_base.specs.declared.calls.MpiCall.{MpiCall}
 use Rattle.am_base.specs.declared.calls.MpiCall.TheVariants as call
 use Rattle.am_base.specs.declared.traps.TrapCause.{TrapCause}
 use Rattle.rank_range.specs.Areas.{Areas}
@@ -16,8 +15,7 @@ use Rattle.mpi_types.specs.declared.message.Message.{Message}
 use Rattle.mpi_types.specs.declared.state.OwnData.{OwnData}
 use Rattle.mpi_rules.specs.declared.arguments.CollectiveArgs.{CollectiveArgs}
 use Rattle.mpi_rules.specs.declared.faults.LateFaults.{LateFaults}
-use Rattle.mpi_rules.specs.Calls.{reply_to}
-use Rattle.mpi_rules.specs.Collectives.{collective_args, gathered_data, gathered_reply, own_made, joined, gathered as gathered_of}
+use Rattle.mpi_rules.specs.Collectives.{collective_args, gathered_data, gathered_reply, joined, gathered as gathered_of}
 use Rattle.mpi_rules.specs.Data.{MpiData, without}
 use Rattle.mpi_rules.specs.Faults.{cause_of, late_cause_of}
 use Rattle.mpi_rules.specs.Places.{int_at, count_of, variable_at}
@@ -26,7 +24,6 @@ use Rattle.mpi_rules.specs.Requests.{Came, completion, came_of, ending, all_endi
 use Rattle.mpi_call.specs.declared.done.Done.{Done}
 use Rattle.mpi_call.specs.Answers.{Kept, kept, data_in, DoesGive, IsGiven}
 use Rattle.mpi_call.specs.InOrder.{AreInOrder, StayInOrder}
-use Rattle.mpi_call.specs.Served.{is_finished}
 use Rattle.mpi_call.proofs.ArrayLemmas.{lists_with, apart_without}
 
 -- the requests of the data, whatever has arrived
