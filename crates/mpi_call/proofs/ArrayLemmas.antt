@@ -1,19 +1,18 @@
 -- The requests of an array: what is looked at, and their end.
 use Rattle.std.proofs.Common.{◌≡◌, ◌≢◌, ℕ, zero, suc, ◌+◌, ◌-◌, ◌*◌, ◌^◌, ◌<◌, ◌≤◌, ◌==◌, ◌||◌, ◌&&◌, ◌⊎◌, inl, inr, not, Bool, true, false, cond, List, [], ◌∷◌, ◌++◌, length, map, take, drop, get_or, refl, sym, ap, subst, arith, append_assoc, ◌∙◌, Option, Some, None}
-use Rattle.std.specs.Prelude.{ℤ, All, AllPairs, Any, filter, find, is_some, nat_le, option_map, option_and_then, unwrap_or}
+use Rattle.std.specs.Prelude.{Any, filter, find, is_some, nat_le, option_map, option_and_then, unwrap_or}
 use Rattle.std.specs.List.{list_all, list_any}
 use Rattle.std.proofs.lemmas.Bool.{eq-eqb, eqb-true, ne_eqb, leb-true}
 use Rattle.std.proofs.lemmas.Bool.Decides.{eqb_tells}
 use Rattle.std.proofs.lemmas.List.{drop_more, drop_all, drop-drop, append-nil, at_drop_more, at_drop_all, length-take-le, length-map}
 use Rattle.std.proofs.lemmas.List.Elements.{All-filter}
 use Rattle.std.proofs.lemmas.List.Kept.{AllPairs-filter}
-use Rattle.std.proofs.lemmas.List.Folds.{list_all-map}
 use Rattle.am_base.specs.declared.traps.TrapCause.{TrapCause}
 use Rattle.byteorder.specs.Endian.{little_number}
 use Rattle.rank_range.specs.Numbers.{number_at}
 use Rattle.mpi_types.specs.Reduce.{elements_of}
-use Rattle.rank_range.specs.Layout.{base_of, range_bytes, AllIn, Accessible, IsRange}
-use Rattle.rank_range.specs.Areas.{Areas, areas_of, bytes_from, bytes_at, room_at, is_accessible}
+use Rattle.rank_range.specs.Layout.{AllIn, Accessible, IsRange}
+use Rattle.rank_range.specs.Areas.{Areas, areas_of, bytes_from, bytes_at, is_accessible}
 use Rattle.rank_range.proofs.AccessLemmas.{from_length, tells_accessible, accessible_yes}
 use Rattle.mpi_types.specs.declared.call.Write.{Write}
 use Rattle.mpi_types.specs.declared.lists.BookLists.{BookLists}
@@ -26,16 +25,15 @@ use Rattle.mpi_types.specs.declared.message.Message.{Message}
 use Rattle.mpi_types.specs.declared.message.Posted.{Posted}
 use Rattle.mpi_types.specs.Book.{IsLive}
 use Rattle.mpi_rules.specs.declared.faults.Faults.{Faults}
-use Rattle.mpi_rules.specs.declared.faults.LateFaults.{LateFaults}
-use Rattle.mpi_rules.specs.Data.{MpiData, complete_of, pair_of, is_live, is_waiting, without, without_complete, without_pair}
+use Rattle.mpi_rules.specs.Data.{MpiData, complete_of, pair_of, is_live, is_waiting, without, without_pair}
 use Rattle.mpi_rules.specs.Faults.{cause_of}
 use Rattle.mpi_rules.specs.Places.{is_open, read_at, are_open}
 use Rattle.mpi_rules.specs.Reply.{no_faults}
-use Rattle.mpi_rules.specs.Requests.{Came, came_without, empty_status, came_in, completion, came_of, is_request, ending, all_came, all_ending, all_writes, next_status, has_twice, has_statuses, variable_writes, came_writes}
+use Rattle.mpi_rules.specs.Requests.{Came, came_without, empty_status, came_in, completion, came_of, is_request, ending, all_came, all_ending, all_writes, next_status, has_twice, variable_writes, came_writes}
 use Rattle.mpi_call.specs.declared.requests.Sizes.{Sizes}
 use Rattle.mpi_call.specs.Sizes.{sizes_of}
-use Rattle.mpi_call.specs.Answers.{Kept, kept, data_in, Took}
-use Rattle.mpi_call.specs.Arrays.{status_at, EndsOne, EndsAll, is_long, has_buffer, has_body, sizes_faults}
+use Rattle.mpi_call.specs.Answers.{Kept, data_in, Took}
+use Rattle.mpi_call.specs.Arrays.{status_at, EndsOne, EndsAll}
 use Rattle.mpi_call.specs.Lawful.{AreApart}
 use Rattle.mpi_call.proofs.LiveLemmas.{any_tested, tested_any, found_any}
 use Rattle.mpi_call.proofs.EndLemmas.{came_open, both_open, variable_open}
@@ -336,10 +334,10 @@ live_before lists new keep m posted matched (inr pair) =
     (any_filter (λ p. p.receive.request == m) keep lists.matched
     (any_tested (λ p. p.receive.request) (filter keep lists.matched) m (subst (λ (xs : List MatchedPair). Any (λ p. p.receive.request ≡ m) xs) matched pair))))
 
-abbrev lists_with : MpiData → List Message → BookLists
+abbrev pub lists_with : MpiData → List Message → BookLists
 lists_with mpi arrived = record { posted = mpi.posted; matched = mpi.matched; arrived = arrived }
 
-apart_without : (k : Kept) (n : ℕ) (arrived : List Message) → AreApart k.own k.lists
+pub apart_without : (k : Kept) (n : ℕ) (arrived : List Message) → AreApart k.own k.lists
     → AreApart (without n (data_in k)).own (lists_with (without n (data_in k)) arrived)
 unfolding without
 apart_without k n arrived apart =

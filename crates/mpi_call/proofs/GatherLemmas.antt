@@ -1,15 +1,13 @@
 -- What the second tick of a collective gives.
-use Rattle.std.proofs.Common.{◌≡◌, ℕ, ◌<◌, ◌≤◌, ◌==◌, ◌||◌, ◌&&◌, not, Bool, true, false, cond, List, [], ◌∷◌, ◌++◌, length, map, refl, sym, ap, subst, arith, ◌∙◌, Option, Some, None, Result, Ok, Err}
-use Rattle.std.specs.Prelude.{ℤ, pos, is_some, unwrap_or, slice_get, option_map}
+use Rattle.std.proofs.Common.{◌≡◌, ℕ, ◌<◌, ◌==◌, ◌||◌, ◌&&◌, not, Bool, true, false, cond, List, [], ◌∷◌, length, map, refl, sym, ap, subst, arith, ◌∙◌, Option, Some, None, Ok, Err}
+use Rattle.std.specs.Prelude.{ℤ, is_some, unwrap_or, slice_get, option_map}
 use Rattle.std.proofs.lemmas.Bool.Decides.{Decides-int_eq}
 use Rattle.std.proofs.lemmas.Option.{slice_get-map}
 use Rattle.std.specs.Ordering.{int_eq}
-use Rattle.am_base.specs.declared.traps.TrapCause.{TrapCause}
 use Rattle.am_base.specs.declared.traps.TrapCause.TheVariants.{CollectiveMismatch, BadAddress}
 use Rattle.rank_range.specs.Areas.{Areas}
 use Rattle.mpi_types.specs.declared.argument.Arg.{Arg}
 use Rattle.mpi_types.specs.declared.argument.Joined.{Joined}
-use Rattle.mpi_types.specs.declared.argument.Sweep.{Sweep}
 use Rattle.mpi_types.specs.declared.call.Write.{Write}
 use Rattle.mpi_types.specs.declared.collective.Collective.{Collective}
 use Rattle.mpi_types.specs.declared.collective.Collective.TheVariants.{Barrier, Bcast, Reduce, Allreduce, Scan, Gather, Scatter, Allgather, Alltoall, CommDup, CommSplit, Migrate}
@@ -25,11 +23,11 @@ use Rattle.mpi_rules.specs.Data.{MpiData}
 use Rattle.mpi_rules.specs.Faults.{late_cause_of}
 use Rattle.mpi_rules.specs.Messages.{group_of}
 use Rattle.mpi_rules.specs.Places.{is_open, are_open, write_of}
-use Rattle.mpi_rules.specs.Reply.{Reply, NotYet, writing, ended}
+use Rattle.mpi_rules.specs.Reply.{Reply, writing, ended}
 use Rattle.mpi_call.specs.declared.done.CallStop.{CallStop}
 use Rattle.mpi_call.specs.declared.done.CallStop.TheVariants.{Trap, End, Memory}
 use Rattle.mpi_call.specs.declared.done.Done.{Done}
-use Rattle.mpi_call.specs.Answers.{Kept, data_in, IsGiven, MayDo, Stops}
+use Rattle.mpi_call.specs.Answers.{Kept, data_in, IsGiven, MayDo}
 use Rattle.mpi_types.specs.declared.state.OwnData.{OwnData}
 use Rattle.mpi_call.specs.Gathers.{fitting_share, gives_number, MayGather, MayEndBy, MayEnd, HasShare, LacksShare, IsSettled, writes_with}
 use Rattle.mpi_call.proofs.DoesLemmas.{only_writes, not_false}

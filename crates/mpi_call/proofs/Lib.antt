@@ -13,3 +13,5 @@ pub mod ArrayLemmas
 pub mod WaitLemmas
 pub mod GatherLemmas
 pub mod ReadyLemmas
+pub mod OrderLemmas
+pub mod TakenLemmas

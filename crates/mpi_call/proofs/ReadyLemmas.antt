@@ -1,8 +1,8 @@
 -- Whether a call can be answered now.
-use Rattle.std.proofs.Common.{◌≡◌, ℕ, zero, suc, ◌+◌, ◌-◌, ◌*◌, ◌<◌, ◌≤◌, ◌==◌, ◌||◌, ◌&&◌, not, Bool, true, false, List, [], ◌∷◌, length, drop, get_or, refl, sym, ap, subst, arith, ◌∙◌, Option, Some, None}
+use Rattle.std.proofs.Common.{◌≡◌, ℕ, zero, suc, ◌+◌, ◌-◌, ◌*◌, ◌<◌, ◌≤◌, ◌==◌, ◌||◌, ◌&&◌, not, Bool, true, false, List, [], ◌∷◌, length, drop, get_or, refl, sym, ap, arith, ◌∙◌, Option, Some, None}
 use Rattle.std.specs.Prelude.{ℤ, pos, int_lt, is_some, option_map, option_and_then, slice_index, unwrap_or}
 use Rattle.std.specs.List.{list_all, list_any}
-use Rattle.std.proofs.lemmas.List.{drop-drop, drop_more, at_drop_more, at_drop_all}
+use Rattle.std.proofs.lemmas.List.{drop-drop, at_drop_more, at_drop_all}
 use Rattle.am_base.specs.declared.traps.TrapCause.{TrapCause}
 use Rattle.byteorder.specs.Endian.{little_number}
 use Rattle.rank_range.specs.Areas.{Areas, bytes_at}
@@ -22,7 +22,7 @@ use Rattle.mpi_rules.specs.Collectives.{collective_args, gathered_reply, joined,
 use Rattle.mpi_rules.specs.Data.{MpiData, is_running, is_live}
 use Rattle.mpi_rules.specs.Faults.{cause_of, late_cause_of}
 use Rattle.mpi_rules.specs.Places.{count_of, is_open, read_at, variable_at}
-use Rattle.mpi_rules.specs.Reply.{Given, Reply, Gives, Traps, unless, checked, ended, no_faults}
+use Rattle.mpi_rules.specs.Reply.{Given, Reply, Gives, unless, checked, ended, no_faults}
 use Rattle.mpi_rules.specs.Requests.{Came, completion, came_of, is_request, received, received_reply, variable_faults, waited, wait_reply, tested, test_reply, all_came, has_twice, numbers_at, waitall_faults, waited_all, waitall_reply}
 use Rattle.mpi_call.specs.declared.requests.Sizes.{Sizes}
 use Rattle.mpi_call.specs.Arrays.{array_faults}

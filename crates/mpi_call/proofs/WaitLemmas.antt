@@ -1,5 +1,5 @@
 -- What Waitall gives.
-use Rattle.std.proofs.Common.{◌≡◌, ℕ, zero, suc, ◌+◌, ◌*◌, ◌^◌, ◌<◌, ◌≤◌, ◌==◌, ◌||◌, ◌&&◌, ◌⊎◌, inl, inr, not, Bool, true, false, List, [], ◌∷◌, length, map, refl, sym, ap, subst, arith, ◌∙◌, Option, Some, None, Result, Ok, Err}
+use Rattle.std.proofs.Common.{◌≡◌, ℕ, zero, suc, ◌+◌, ◌*◌, ◌^◌, ◌<◌, ◌≤◌, ◌||◌, inl, inr, not, Bool, true, false, List, [], ◌∷◌, length, map, refl, sym, ap, subst, arith, ◌∙◌, Option, Some, None, Result, Ok, Err}
 use Rattle.std.specs.Prelude.{ℤ, pos, int_lt, option_map}
 use Rattle.std.specs.List.{list_all, list_any}
 use Rattle.std.proofs.lemmas.Bool.{ne_eqb}
@@ -12,15 +12,13 @@ use Rattle.rank_range.specs.Areas.{Areas, areas_of}
 use Rattle.mpi_types.specs.declared.argument.Joined.{Joined}
 use Rattle.mpi_types.specs.declared.argument.Sweep.{Sweep}
 use Rattle.mpi_types.specs.declared.call.Write.{Write}
-use Rattle.mpi_types.specs.declared.lists.BookLists.{BookLists}
 use Rattle.mpi_types.specs.declared.message.Message.{Message}
 use Rattle.mpi_types.specs.Reduce.{elements_of}
-use Rattle.mpi_rules.specs.declared.faults.Faults.{Faults}
 use Rattle.mpi_rules.specs.declared.faults.LateFaults.{LateFaults}
 use Rattle.mpi_rules.specs.Data.{MpiData, is_running}
 use Rattle.mpi_rules.specs.Faults.{cause_of, late_cause_of}
 use Rattle.mpi_rules.specs.Places.{count_of, is_open, read_at, are_open}
-use Rattle.mpi_rules.specs.Reply.{Reply, NotYet, checked, writing}
+use Rattle.mpi_rules.specs.Reply.{Reply, checked, writing}
 use Rattle.mpi_rules.specs.Requests as words
 use Rattle.mpi_rules.specs.Requests.{Came, is_request, all_came, all_ending, all_writes, has_twice, has_statuses, numbers_at, waitall_faults, waitall_reply, waited_all, all_faults}
 use Rattle.mpi_call.specs.declared.done.CallStop.{CallStop}

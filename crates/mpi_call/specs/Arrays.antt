@@ -1,7 +1,6 @@
 -- What is known of the requests of an array, and of their end.
 use Rattle.std.specs.Prelude.{ℕ, ℤ, pos, ◌≡◌, ◌+◌, ◌*◌, ◌^◌, ◌<◌, ◌==◌, ◌||◌, not, nat_lt, int_lt, if◌then◌else◌, Bool, true, false, Some, None, List, [], ◌++◌, length}
 use Rattle.std.specs.List.{list_all, list_any}
-use Rattle.am_base.specs.declared.traps.TrapCause.{TrapCause}
 use Rattle.rank_range.specs.Areas.{Areas}
 use Rattle.mpi_types.specs.declared.call.Write.{Write}
 use Rattle.mpi_rules.specs.declared.faults.Faults.{Faults}

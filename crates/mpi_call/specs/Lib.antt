@@ -10,3 +10,4 @@ pub mod Numbers
 pub mod Arrays
 pub mod Gathers
 pub mod Ready
+pub mod InOrder

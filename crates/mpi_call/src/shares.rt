@@ -3,7 +3,6 @@
 ghost use Rattle.std.specs.Prelude.{◌≡◌, ◌<◌, ◌++◌, ◌||◌, not, length, true, is_some, IfOk, IfErr, IfSome, OnOk};
 ghost use Rattle.rank_range.specs.Areas.{areas_of};
 ghost use Rattle.mpi_rules.specs.Collectives as words;
-ghost use Rattle.mpi_rules.specs.Data as data_words;
 ghost use Rattle.mpi_rules.specs.Messages.{group_of};
 ghost use Rattle.mpi_rules.specs.Places as places;
 ghost use Rattle.mpi_call.specs.Answers.{kept, data_in, IsQuiet, MayDo};

@@ -3,7 +3,6 @@
 ghost use Rattle.std.specs.Prelude.{◌≡◌, ◌≢◌, ◌+◌, ◌*◌, ◌^◌, ◌<◌, ◌≤◌, List, map, length, Some, true, false, is_some, option_map, IfOk, IfErr, IfSome, OnOk};
 ghost use Rattle.std.specs.List.{list_all, list_any};
 ghost use Rattle.rank_range.specs.Areas.{areas_of};
-ghost use Rattle.mpi_types.specs.Reduce.{elements_of};
 ghost use Rattle.mpi_rules.specs.Data as data_words;
 ghost use Rattle.mpi_rules.specs.Places as places;
 ghost use Rattle.mpi_rules.specs.Requests as words;

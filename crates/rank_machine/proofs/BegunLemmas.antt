@@ -1,10 +1,6 @@
 -- A rank before its first instruction is the machine at its start.
-use Rattle.std.proofs.Common.{◌≡◌, ℕ, ◌∙◌, List, [], refl, ap}
-use Rattle.rank_range.specs.Areas.{memory_of}
+use Rattle.std.proofs.Common.{ℕ, ◌∙◌, List, [], ap}
 use Rattle.mpi_types.specs.declared.call.Call.{Call}
-use Rattle.mpi_types.specs.declared.call.Answer.{Answer}
-use Rattle.vm_code.specs.declared.code.Code.{Code}
-use Rattle.vm_code.specs.Machine.{Config}
 use Rattle.rank_machine.specs.View.{Tally, Rank, config_at}
 use Rattle.rank_machine.specs.Begun.{BeginAtStart}
 

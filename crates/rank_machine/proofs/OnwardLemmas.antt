@@ -1,5 +1,5 @@
 -- A rank's code goes on from its start, behind a run, and behind an answer.
-use Rattle.std.proofs.Common.{◌≡◌, ℕ, zero, suc, ◌+◌, ◌-◌, ◌^◌, ◌<◌, ◌≤◌, ◌∙◌, inl, inr, Bool, true, false, List, [], ◌∷◌, ◌++◌, length, drop, refl, sym, ap, subst, arith, length-append, Option, Some, None}
+use Rattle.std.proofs.Common.{◌≡◌, ℕ, zero, suc, ◌+◌, ◌-◌, ◌^◌, ◌<◌, ◌≤◌, ◌∙◌, inl, inr, Bool, true, false, List, [], ◌∷◌, length, drop, refl, sym, ap, subst, arith, Option, Some, None}
 use Rattle.std.specs.Prelude.{ℤ, nat_le, nat_lt, slice_get}
 use Rattle.std.proofs.lemmas.Bool.{true≢false, le-leb, lt-leb, le-ltb, cases_lt}
 use Rattle.am_base.specs.declared.calls.MpiCall.{MpiCall}
@@ -21,11 +21,11 @@ use Rattle.vm_code.specs.Machine.{Config, Frame, Moved, Went, Stopped, Stuck, ac
 use Rattle.vm_code.specs.Laws.{StaysStopped}
 use Rattle.rank_machine.specs.declared.work.Work.{Work}
 use Rattle.rank_machine.specs.declared.stop.Stop as told
-use Rattle.rank_machine.specs.View.{Tally, Rank, record_place, frame_at, frames_of, work_at, config_of, config_since, config_in, config_at, words_for}
+use Rattle.rank_machine.specs.View.{Tally, Rank, record_place, frame_at, frames_of, work_at, config_of, config_in, config_at, words_for}
 use Rattle.rank_machine.specs.Runs.{with_ticks, run_on, LeadsTo}
-use Rattle.rank_machine.specs.Ran.{CallsMain, Stands, GoesOn, Ran, Gone, Unopened, is_mpi, goes_on, output_at}
-use Rattle.rank_machine.specs.Answered.{TakesAnswer, IsAnswered, StepsBy, place_behind, after_answer}
-use Rattle.rank_machine.specs.Onward.{IsFresh, FreshRanksRun, RunsLeadOn, AtMpi, AnswersAreTaken, HasWritten, AnswersLeadOn}
+use Rattle.rank_machine.specs.Ran.{Stands, GoesOn, Ran, Unopened, is_mpi, goes_on}
+use Rattle.rank_machine.specs.Answered.{TakesAnswer, StepsBy, place_behind}
+use Rattle.rank_machine.specs.Onward.{FreshRanksRun, RunsLeadOn, AnswersAreTaken, HasWritten, AnswersLeadOn}
 use Rattle.rank_machine.proofs.FrameLemmas.{Same, frame_with, frame_stands, frames_stand}
 use Rattle.rank_machine.proofs.CallLemmas.{config_with}
 use Rattle.rank_machine.proofs.RestLemmas.{small_place}

@@ -1,5 +1,5 @@
 -- The memory of a rank before its first instruction.
-use Rattle.std.proofs.Common.{◌≡◌, ℕ, zero, suc, ◌+◌, ◌-◌, ◌^◌, ◌%◌, ◌<◌, ◌≤◌, ◌⊎◌, ◌∙◌, inl, inr, Bool, List, [], ◌∷◌, ◌++◌, length, take, drop, get_or, slice_index, replicate, fold, refl, sym, ap, subst, arith, append_assoc, Result, OnOk, OnErr}
+use Rattle.std.proofs.Common.{◌≡◌, ℕ, ◌+◌, ◌-◌, ◌^◌, ◌%◌, ◌<◌, ◌≤◌, ◌⊎◌, ◌∙◌, inl, inr, Bool, List, [], ◌∷◌, ◌++◌, length, take, drop, slice_index, replicate, fold, refl, sym, ap, subst, arith, append_assoc, Result, OnOk, OnErr}
 use Rattle.std.specs.Prelude.{All}
 use Rattle.std.proofs.lemmas.List.{length-replicate, get_or-replicate, get_or_append_left, ext_get_or, drop-replicate, drop_all, take-append-le, drop-append-le}
 use Rattle.std.proofs.lemmas.List.Elements.{All-get_or, All-from_get_or, All-drop}
@@ -10,7 +10,7 @@ use Rattle.rank_range.specs.Layout.{base_of, descriptors_start, globals_start, h
 use Rattle.rank_range.specs.Numbers.{number_at, with_number}
 use Rattle.rank_range.specs.Parts.{part, with_part, StayBeside, Keeps}
 use Rattle.rank_range.specs.Nodes.{HasHeap, HeapBytesStay, blocks_of}
-use Rattle.rank_range.specs.Areas.{Areas, Memory, areas_of, memory_of}
+use Rattle.rank_range.specs.Areas.{areas_of, memory_of}
 use Rattle.rank_range.specs.declared.run.Segment.{Segment}
 use Rattle.rank_range.specs.declared.heap.Block.{Block}
 use Rattle.rank_range.proofs.PartLemmas.{part_length, part_byte, part_put, part_of_part, part_stays, put_beside, put_length, number_part, number_put, no_part}

@@ -1,5 +1,5 @@
 -- Where the condition of a run comes from: a rank has it before its first instruction, behind a run, and behind an answer.
-use Rattle.std.specs.Prelude.{ℕ, ◌≡◌, ◌-◌, ◌<◌, ℤ, true, List, [], Option, Some, None, slice_get}
+use Rattle.std.specs.Prelude.{ℕ, ◌≡◌, ◌-◌, ◌<◌, ℤ, true, List, [], Option, None, slice_get}
 use Rattle.rank_range.specs.Layout.{globals_start, stack_start, range_bytes}
 use Rattle.rank_range.specs.Parts.{StayBeside}
 use Rattle.rank_range.specs.Areas.{memory_of}

@@ -1,5 +1,4 @@
 use Rattle.std.proofs.Common.{Bool, ◌∙◌, ap, sym}
-use Rattle.am_base.specs.declared.calls.MpiCall.{MpiCall}
 use Rattle.rank_range.specs.Areas.{areas_of}
 use Rattle.mpi_rules.specs.Calls.{reply, reply_to}
 use Rattle.mpi_call.specs.Answers.{kept, data_in}

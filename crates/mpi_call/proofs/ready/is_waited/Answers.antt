@@ -1,4 +1,3 @@
-use Rattle.mpi_call.proofs.ReadyLemmas.{wait_ready, wait_stopped}
 use Rattle.mpi_call.proofs.ready.is_waited.Goals as goal
 
 pub came_of-requires : goal.came_of-requires

@@ -1,4 +1,4 @@
-use Rattle.std.proofs.Common.{ℕ, ◌+◌, ◌≤◌, ◌==◌, ◌∙◌, sym, arith}
+use Rattle.std.proofs.Common.{ℕ, ◌==◌, ◌∙◌, sym, arith}
 use Rattle.mpi_call.proofs.ReadyLemmas.{any_more, any_found, any_none}
 use Rattle.mpi_call.proofs.ready.stands_later.Goals as goal
 

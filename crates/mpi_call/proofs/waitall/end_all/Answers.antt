@@ -1,7 +1,7 @@
-use Rattle.std.proofs.Common.{◌≡◌, ◌+◌, ◌*◌, ◌<◌, ◌∙◌, ℕ, ap, refl, arith, drop, length}
+use Rattle.std.proofs.Common.{◌≡◌, ◌+◌, ◌*◌, ◌<◌, ap, refl, arith, drop, length}
 use Rattle.std.specs.Prelude.{is_some}
 use Rattle.std.proofs.lemmas.List.{drop_more, drop_all}
-use Rattle.mpi_rules.specs.Requests.{Came, all_came}
+use Rattle.mpi_rules.specs.Requests.{all_came}
 use Rattle.mpi_call.specs.Answers.{kept, data_in}
 use Rattle.mpi_call.specs.Arrays.{status_at}
 use Rattle.mpi_call.proofs.ArrayLemmas.{there_came, sizes_all, next_at, ended_none, ended_at, ended_all, any_sizes, status_next, status_start}

@@ -1,4 +1,4 @@
-use Rattle.std.proofs.Common.{rules, ◌≡◌, ◌<◌, ◌^◌, ◌∙◌, sym, subst, ℕ, arith}
+use Rattle.std.proofs.Common.{rules, ◌<◌, ◌^◌, ◌∙◌, sym, subst, ℕ, arith}
 use Rattle.rank_range.specs.Areas.{areas_of}
 use Rattle.mpi_rules.specs.Requests.{all_came}
 use Rattle.mpi_call.specs.Answers.{kept, data_in}

@@ -1,10 +1,10 @@
-use Rattle.std.proofs.Common.{◌≡◌, ◌*◌, ◌∙◌, List, ℕ, ap, sym, None, Some}
+use Rattle.std.proofs.Common.{◌≡◌, ◌*◌, ◌∙◌, List, ℕ, ap, sym, Some}
 use Rattle.rank_range.specs.Areas.{areas_of}
 use Rattle.mpi_rules.specs.Faults.{cause_of}
 use Rattle.mpi_rules.specs.Places.{count_of, is_open}
 use Rattle.mpi_rules.specs.Requests.{numbers_at}
 use Rattle.mpi_call.specs.Answers.{kept, data_in}
-use Rattle.mpi_call.specs.Arrays.{array_faults, number_faults}
+use Rattle.mpi_call.specs.Arrays.{number_faults}
 use Rattle.mpi_call.proofs.WaitLemmas.{array_stops, array_open, numbers_tell, are_held}
 use Rattle.mpi_call.proofs.waitall.held_numbers.Goals as goal
 
