@@ -4,3 +4,4 @@ mod StateLemmas
 mod InitTrees
 mod DealLemmas
 mod WithinLemmas
+mod OrderLemmas

@@ -1,5 +1,5 @@
 -- The steps from an object inwards.
-use Rattle.std.proofs.Common.{ℕ, zero, suc, ◌≡◌, refl, ◌∙◌, sym, ap, ◌-◌, ◌<◌, ◌≤◌, if◌then◌else◌, Bool, true, false, Option, Some, None, arith}
+use Rattle.std.proofs.Common.{ℕ, zero, suc, ◌≡◌, refl, ◌∙◌, sym, ap, ◌-◌, ◌<◌, ◌≤◌, if◌then◌else◌, true, false, Option, Some, None, arith}
 use Rattle.c_types.specs.Sizes.{Structs}
 use Rattle.c_stores.specs.declared.spots.Spot.{Spot}
 use Rattle.c_stores.specs.declared.spots.Want.{Want}

@@ -1,5 +1,5 @@
 -- Where the stores of an initialiser lie: by induction over its tree.
-use Rattle.std.proofs.Common.{ℕ, ◌≡◌, refl, sym, ◌∙◌, ap, subst, ◌+◌, ◌-◌, ◌<◌, ◌≤◌, nat_lt, if◌then◌else◌, Bool, true, false, List, [], ◌∷◌, ◌++◌, length, map, Option, Some, None, Result, Ok, Err, IfOk, arith}
+use Rattle.std.proofs.Common.{ℕ, ◌≡◌, refl, sym, subst, ◌+◌, ◌-◌, ◌<◌, ◌≤◌, nat_lt, if◌then◌else◌, Bool, true, false, List, [], ◌∷◌, ◌++◌, length, map, Option, Some, None, Result, Ok, Err, IfOk, arith}
 use Rattle.std.specs.Prelude.{IfSome}
 use Rattle.std.specs.List.{AllByRecursion}
 use Rattle.rank_range.specs.declared.kinds.Kind.{Kind}
@@ -10,7 +10,6 @@ use Rattle.c_ast.specs.declared.declaration.Init.TheViews.{roll-Init}
 use Rattle.c_ast.specs.declared.declaration.Init.{map-Init}
 use Rattle.c_ast.specs.declared.declaration.Init.TheFolds.{fold-roll-Init, ind-Init}
 use Rattle.c_types.specs.declared.ctype.CType.{CType}
-use Rattle.c_types.specs.declared.ctype.Part.{Part}
 use Rattle.c_types.specs.declared.expression.Expr.{Expr}
 use Rattle.c_types.specs.declared.statement.Store.{Store}
 use Rattle.c_types.specs.Sizes.{Structs, size_limit}
@@ -36,10 +35,10 @@ use Rattle.c_stores.specs.declared.dealing.Placing.{Placing}
 use Rattle.c_stores.specs.declared.dealing.Placing.TheVariants as placing
 use Rattle.c_stores.specs.declared.lists.Initialised.{Initialised}
 use Rattle.c_stores.specs.Spots.{is_text_array, spot_for, whole}
-use Rattle.c_stores.specs.Dealing.{bounded, spot_at, next_spot, list_plan, plan_by, spot_plan, inner_plan, dealt_from}
+use Rattle.c_stores.specs.Dealing.{bounded, spot_at, list_plan, plan_by, inner_plan, dealt_from}
 use Rattle.c_stores.specs.Texts.{text_of, text_rule, text_room, text_misfit, text_kind, with_text, character_store}
-use Rattle.c_stores.specs.Values.{kept, put_in, put, want_of, expr_item, text_told, text_item, only_text, text_spot, text_by, value_by, value_item, value_mode, store_of}
-use Rattle.c_stores.specs.Lists.{Initialising, deal_all, ended, list_by, list_item, init_step, initialising, start, target_of, braced, braced_end, whole_class, whole_item, whole_expr, whole_text, whole_dealt, whole_by, whole_value, text_for, finished}
+use Rattle.c_stores.specs.Values.{kept, put_in, put, want_of, expr_item, text_told, text_item, only_text, text_spot, text_by, value_by, value_mode, store_of}
+use Rattle.c_stores.specs.Lists.{Initialising, deal_all, ended, list_by, list_item, init_step, initialising, start, target_of, braced, braced_end, whole_class, whole_item, whole_dealt, whole_by, whole_value, text_for}
 use Rattle.c_stores.specs.Within.{LiesIn, AllLieIn}
 
 put_behind : (base : ℕ) (stores : List Store) (store : Store) → AllLieIn base stores → LiesIn base store → AllLieIn base (stores ++ store ∷ [])

@@ -21,7 +21,6 @@ use Rattle.c_stores.specs.declared.dealing.Turn.{Turn}
 use Rattle.c_stores.specs.declared.dealing.Dealt.{Dealt}
 use Rattle.c_stores.specs.declared.dealing.Taken.{Taken}
 use Rattle.c_stores.specs.declared.dealing.Plan.{Plan}
-use Rattle.c_stores.specs.declared.dealing.Placing.{Placing}
 use Rattle.c_stores.specs.declared.dealing.Placing.TheVariants as placing
 use Rattle.c_stores.specs.Spots.{spot_for}
 

@@ -5,3 +5,4 @@ pub mod Values
 pub mod Lists
 pub mod Statics
 pub mod Within
+pub mod Laws

@@ -10,7 +10,6 @@ use Rattle.c_typing.specs.declared.classes.Class.TheVariants as class
 use Rattle.c_typing.specs.declared.judged.Judged.{Judged}
 use Rattle.c_typing.specs.declared.rules.Rule.TheVariants as rule
 use Rattle.c_typing.specs.Classes.{class_of_type}
-use Rattle.c_typing.specs.Storing.{is_array}
 use Rattle.c_judge.specs.declared.checker.Checker.{Checker}
 use Rattle.c_judge.specs.State.{Doing, then_with, with_broken}
 use Rattle.c_judge.specs.Judging.{expression}

@@ -1,7 +1,7 @@
 -- Where initialisers go within an object (C11, 6.7.9p17 to p20). An initialiser is for the next object of which none is initialised yet:
 -- a list in braces for the largest one, a string for an array of characters, an expression that is a structure for a structure of its type, and
 -- another one for the first number or pointer there.
-use Rattle.std.specs.Prelude.{ℕ, zero, suc, ◌+◌, ◌-◌, ◌*◌, ◌/◌, ◌%◌, ◌^◌, ◌&&◌, ◌||◌, ◌==◌, nat_eq, nat_le, nat_lt, if◌then◌else◌, Bool, true, false, List, [], ◌∷◌, slice_get, Option, Some, None}
+use Rattle.std.specs.Prelude.{ℕ, zero, suc, ◌+◌, ◌-◌, ◌*◌, ◌/◌, ◌^◌, ◌&&◌, ◌==◌, nat_eq, nat_le, nat_lt, if◌then◌else◌, Bool, true, false, List, [], ◌∷◌, slice_get, Option, Some, None}
 use Rattle.rank_range.specs.declared.kinds.Kind.TheVariants as kind
 use Rattle.c_types.specs.declared.ctype.CType.{CType}
 use Rattle.c_types.specs.declared.ctype.Base.{Base}
@@ -96,7 +96,7 @@ holder position at found [] = found
 holder position at found (m ∷ ms) = holder position (at + 1) (if nat_le m.offset position then Some (at, m.offset) else found) ms
 
 abbrev pub behind : Option Member → ℕ → Option ℕ → Option ℕ
-behind (Some m) offset next = Some ((offset + m.offset) % 2 ^ 64)
+behind (Some m) offset next = if nat_lt (offset + m.offset) (2 ^ 64) then Some (offset + m.offset) else None
 behind None offset next = next
 
 abbrev pub member_behind : List Member → ℕ → ℕ → Option ℕ → Option ℕ

@@ -6,7 +6,6 @@ use Rattle.c_const.specs.declared.error.ConstError.{ConstError}
 use Rattle.c_const.specs.declared.error.ConstError.TheVariants.{NotConstant, Memory}
 use Rattle.c_const.specs.Initials.{initial_of}
 use Rattle.c_typing.specs.declared.rules.Rule.TheVariants as rule
-use Rattle.c_judge.specs.declared.checker.Checker.{Checker}
 use Rattle.c_judge.specs.State.{Doing, with_broken}
 
 -- No definition tells `Memory`.

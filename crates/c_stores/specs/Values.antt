@@ -14,7 +14,6 @@ use Rattle.c_typing.specs.declared.rules.Rule.{Rule}
 use Rattle.c_typing.specs.declared.rules.Rule.TheVariants as rule
 use Rattle.c_typing.specs.Classes.{class_of_type, class_of}
 use Rattle.c_typing.specs.Storing.{stored}
-use Rattle.c_judge.specs.declared.checker.Checker.{Checker}
 use Rattle.c_judge.specs.declared.checker.Mode.{Mode}
 use Rattle.c_judge.specs.State.{Doing, then_with, with_broken}
 use Rattle.c_judge.specs.Judging.{expression}
@@ -89,9 +88,11 @@ text_last is_whole offset count = if is_whole then count else offset
 
 abbrev pub text_told : Option Rule → ℕ → List ℕ → Spot → Target → Dealt → Doing Dealt
 text_told (Some r) token bytes p at d s = (dealt_from d.stores (passed p.offset p.next true d.turn), with_broken at.token r s)
-text_told None token bytes p at d s =
-    (dealt_from (with_text token (text_kind p.of) (at.base + (at.offset + p.offset)) d.stores bytes)
-      (passed (text_last p.is_whole p.offset (length bytes)) p.next false d.turn), s)
+text_told None token bytes p at d s = (
+  dealt_from (with_text token (text_kind p.of) (at.base + (at.offset + p.offset)) d.stores bytes)
+      (passed (text_last p.is_whole p.offset (length bytes)) p.next false d.turn),
+  s,
+)
 
 abbrev pub text_item : ℕ → List ℕ → Spot → Target → Dealt → Doing Dealt
 text_item token bytes p at d s = text_told (text_rule p.of (at.offset + p.offset) (length bytes)) token bytes p at d s

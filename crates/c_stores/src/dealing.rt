@@ -5,17 +5,15 @@ ghost use Rattle.c_types.specs.Sizes.{size_limit};
 ghost use Rattle.c_stores.specs.Dealing as dealing;
 ghost use Rattle.c_stores.specs.Dealing.{bounded, broken_turn, counted, dealt_from, first_turn, inner_target, is_open, is_spoilt, no_turn, over_rule, over_turn, passed, plan_by, stored_as, taken_by};
 
+use crate::spots::LIMIT;
 use crate::{Spot, Want, spot_for};
 use c_types::{CType, Part, Store, Stored, StructType};
 use c_typing::{Class, Rule, class_of_type, copied_type, measured, without_last};
 use sqlite_items::Items;
 use std::alloc::{AllocError, Global};
 
-/// How many bytes an object may have, which is this profile's own.
-const LIMIT: u64 = 1_048_576;
-
 /// For what a list is.
-#[derive(Clone, Copy, Debug, PartialEq, Eq)]
+#[derive(Clone, Copy)]
 pub struct Target {
     /// The declared name, at which the rules are told.
     pub token: u32,
@@ -26,7 +24,7 @@ pub struct Target {
 }
 
 /// How far the dealing of a list has come.
-#[derive(Clone, Copy, Debug, PartialEq, Eq)]
+#[derive(Clone, Copy)]
 pub struct Turn {
     /// Where the next object begins in the list's one, if there is one left.
     pub next: Option<u64>,
@@ -46,7 +44,7 @@ pub struct Dealt {
 }
 
 /// An object that takes one value: where it and what stands behind it begin, and how it is stored.
-#[derive(Clone, Copy, Debug, PartialEq, Eq)]
+#[derive(Clone, Copy)]
 pub struct Taken {
     pub offset: u64,
     pub next: Option<u64>,
@@ -63,7 +61,7 @@ pub struct Plan {
 }
 
 /// Whether there is an object for a list within a list.
-#[derive(Clone, Copy, Debug, PartialEq, Eq)]
+#[derive(Clone, Copy)]
 pub enum Placing {
     /// There is one: where it and what stands behind it begin.
     Within { offset: u64, next: Option<u64> },

@@ -11,9 +11,7 @@ ghost use Rattle.c_stores.specs.Lists.{ended, initialising, note_over, text_for,
 
 use crate::texts::text_of;
 use crate::values::{store_value, text_item, value_item, value_mode};
-use crate::{
-    Dealt, Placing, Plan, Spot, Target, Turn, is_text_array, list_plan, over_rule, sized,
-};
+use crate::{Dealt, Placing, Plan, Spot, Target, Turn, is_text_array, list_plan, over_rule, sized};
 use c_ast::{Expr, Init};
 use c_const::first_token;
 use c_judge::Checker;
@@ -25,7 +23,7 @@ use std::alloc::{AllocError, Global};
 /// What an initialiser stores.
 #[derive(Drop)]
 pub struct Initialised {
-    /// The type of the object, with the size that an array of open size has by its initialiser; nothing where a rule is broken there.
+    /// The type of the object. An array of open size has its size by its initialiser; it is nothing where a rule is broken there.
     pub of: Option<CType>,
     /// Whether all of the object becomes zero first.
     pub zeros: bool,
@@ -33,8 +31,8 @@ pub struct Initialised {
     pub stores: Items<Store>,
 }
 
-/// What the initialiser of a declared object stores. The rules are told at the token of the declared name. `base` is where the object begins in
-/// its frame; that of a static object is 0.
+/// What the initialiser of a declared object stores. Its type is complete, or an array of open size: other types are refused before. The rules are
+/// told at the token of the declared name. `base` is where the object begins in its frame; that of a static object is 0.
 pub fn initialise(
     checker: &mut Checker,
     alloc: Global,

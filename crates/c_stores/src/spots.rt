@@ -11,7 +11,7 @@ use rank_range::Kind;
 use std::alloc::{AllocError, Global};
 
 /// How many bytes an object may have, which is this profile's own.
-const LIMIT: u64 = 1_048_576;
+pub(crate) const LIMIT: u64 = 1_048_576;
 
 /// No type is nested as deep as this.
 const LEVELS: u64 = 18_446_744_073_709_551_615;
@@ -28,7 +28,7 @@ pub struct Spot {
 }
 
 /// What an initialiser is, by which objects it can initialise.
-#[derive(Clone, Copy, Debug, PartialEq, Eq)]
+#[derive(Clone, Copy)]
 pub enum Want {
     /// A list in braces.
     List,
@@ -186,12 +186,7 @@ fn part_in(
 }
 
 /// An element; an array of open size has as many as an object may have.
-fn element(
-    structs: &[StructType],
-    relative: u64,
-    count: Option<u64>,
-    part: Spot,
-) -> Option<Spot>
+fn element(structs: &[StructType], relative: u64, count: Option<u64>, part: Spot) -> Option<Spot>
     requires { part.offset + relative < size_limit }
     ensures value { result ≡ element structs.now relative count part }
     ensures begun { IfSome result (λ t. t.offset ≤ part.offset + relative) }
@@ -288,7 +283,7 @@ fn member_behind(members: &[Member], at: usize, offset: u64, next: Option<u64>) 
     ensures { result ≡ member_behind members.now at offset next }
 {
     match sqlite_items::at(members, at) {
-        Some(member) => Some(offset.wrapping_add(member.offset)),
+        Some(member) => offset.checked_add(member.offset),
         None => next,
     }
 }

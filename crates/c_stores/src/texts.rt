@@ -6,15 +6,13 @@ ghost use Rattle.c_types.specs.Sizes.{size_limit};
 ghost use Rattle.c_stores.specs.Texts as texts;
 ghost use Rattle.c_stores.specs.Texts.{character_store, text_kind, text_of, text_rule, with_text};
 
+use crate::spots::LIMIT;
 use c_ast::Expr as Tree;
 use c_types::{Base, CType, Expr, FullExpr, Operand, Part, Store, Stored};
 use c_typing::Rule;
 use rank_range::{Kind, extended};
 use sqlite_items::Items;
 use std::alloc::{AllocError, Global};
-
-/// How many bytes an object may have, which is this profile's own.
-const LIMIT: u64 = 1_048_576;
 
 /// The characters of a string. In parentheses it is none (C11, 6.7.9p14).
 pub fn text_of(e: &Tree) -> Option<&[u8]>

@@ -45,9 +45,7 @@ pub fn value_item(
     };
     let structs = checker.sight.structs.as_slice();
     match text_spot(alloc, structs, of, target, dealt.turn) {
-        Ok(Some(spot)) => {
-            text_item(checker, alloc, target, first_token(e), bytes, spot, dealt)
-        }
+        Ok(Some(spot)) => { text_item(checker, alloc, target, first_token(e), bytes, spot, dealt) }
         Ok(None) => expr_item(checker, alloc, target, of, dealt, e),
         Err(error) => {
             drop(dealt);

@@ -1,4 +1,4 @@
-use Rattle.std.proofs.Common.{◌≡◌, ◌∙◌, sym, ap, subst, map}
+use Rattle.std.proofs.Common.{◌∙◌, sym, ap, subst, map}
 use Rattle.c_judge.specs.State.{Gives}
 use Rattle.c_stores.specs.Lists.{Initialising, ended, initialising, list_by}
 use Rattle.c_stores.proofs.StateLemmas.{then_gives}
@@ -24,6 +24,6 @@ deal_all-loop-one-preserved t c =
 pub list_item-returns-in-Ok-deal_all : goal.list_item-returns-in-Ok-deal_all
 list_item-returns-in-Ok-deal_all t c =
     ap (λ p. list_by (map initialising c.args.items.now) p c.args.target c.args.dealt c.args.checker.now)
-      (sym (rw c.as_slice-structs.ensures at c.in-Ok.ensures.value))
+    (sym (rw c.as_slice-structs.ensures at c.in-Ok.ensures.value))
     ∙ then_gives _ _ _ (ended c.args.target c.in-Ok.plan.of c.in-Ok.plan.placing c.args.dealt.turn) _ _
-      (rw c.from-start.ensures at c.in-Ok-deal_all.ensures) c.list_end-done.ensures.value c.list_end-done.ensures.state
+    (rw c.from-start.ensures at c.in-Ok-deal_all.ensures) c.list_end-done.ensures.value c.list_end-done.ensures.state

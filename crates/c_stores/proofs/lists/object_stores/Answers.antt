@@ -1,6 +1,6 @@
-use Rattle.std.proofs.Common.{◌≡◌, ◌∙◌, sym, subst, map}
+use Rattle.std.proofs.Common.{sym, subst}
 use Rattle.c_judge.specs.State.{Gives}
-use Rattle.c_stores.specs.Lists.{Initialising, initialising, braced_end, target_of}
+use Rattle.c_stores.specs.Lists.{Initialising, braced_end, target_of}
 use Rattle.c_stores.proofs.StateLemmas.{gives_then}
 use Rattle.c_stores.proofs.DealLemmas.{start_is}
 use Rattle.c_stores.proofs.InitTrees.{value_is, list_is}
@@ -16,5 +16,5 @@ returns-in-Ok c =
     subst (λ (i : Initialising). Gives c.braced_end.result c.braced_end.new.checker (i.object c.args.token c.args.base c.args.of c.args.checker.now))
     (sym (list_is _ _ _ c.in-List.is))
     (gives_then _ _ _ _ _ (braced_end (target_of c.args.token c.args.base) c.args.of)
-      (rw c.as_slice.ensures at (rw (start_is _ _ _ c.new.ensures c.first.ensures c.from-start.ensures) at c.in-Ok.ensures))
-      c.braced_end.ensures)
+    (rw c.as_slice.ensures at (rw (start_is _ _ _ c.new.ensures c.first.ensures c.from-start.ensures) at c.in-Ok.ensures))
+    c.braced_end.ensures)

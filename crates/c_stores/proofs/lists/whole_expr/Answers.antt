@@ -1,4 +1,3 @@
-use Rattle.std.proofs.Common.{◌≡◌}
 use Rattle.c_const.specs.Constants.{first_token}
 use Rattle.c_stores.specs.Lists.{whole_item}
 use Rattle.c_stores.proofs.StateLemmas.{gives_then}

@@ -1,4 +1,4 @@
-use Rattle.std.proofs.Common.{◌≡◌, is_some}
+use Rattle.std.proofs.Common.{is_some}
 use Rattle.c_stores.specs.Lists.{finished, text_for}
 use Rattle.c_stores.proofs.StateLemmas.{gives_then}
 use Rattle.c_stores.proofs.lists.whole_value.Goals as goal

@@ -1,4 +1,4 @@
-use Rattle.std.proofs.Common.{◌≡◌, ◌∙◌, sym}
+use Rattle.std.proofs.Common.{◌∙◌, sym}
 use Rattle.c_stores.proofs.SpotLemmas.{found_here, found_nothing, found_part, none_left}
 use Rattle.c_stores.proofs.spots.spot_from.Goals as goal
 
@@ -16,7 +16,7 @@ pub loop-levels-preserved : goal.loop-levels-preserved
 loop-levels-preserved c = (
   (rw c.in-Some.is at c.in_ok-inner.ensures.begun),
   sym (found_part c.loop-levels.levels _ _ _ _ _ _ c.loop-levels-test.true (sym c.is_for.ensures ∙ c.if-is_for.false) c.in_ok-inner.ensures.value c.in-Some.is)
-    ∙ c.loop-levels.invariant.1,
+      ∙ c.loop-levels.invariant.1,
 )
 
 pub returns-clause-value : goal.returns-clause-value
