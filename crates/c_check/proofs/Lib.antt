@@ -1,0 +1,2 @@
+mod StmtTrees
+mod Turns

@@ -1,0 +1,15 @@
+pub mod Draft
+pub mod Labels
+pub mod Values
+pub mod Making
+pub mod Declarations
+pub mod Statements
+pub mod Running
+pub mod Redeclared
+pub mod Linkage
+pub mod Declaring
+pub mod Objects
+pub mod Locals
+pub mod Statics
+pub mod Functions
+pub mod Units
