@@ -1,0 +1,3 @@
+pub mod TextLaws
+pub mod ProgramLaws
+pub mod KnownLaws

@@ -1,0 +1,5 @@
+pub mod Causes
+pub mod Lines
+pub mod Known
+pub mod Texts
+pub mod Programs
