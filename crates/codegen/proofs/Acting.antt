@@ -27,7 +27,8 @@ use Rattle.codegen.specs.Statements.{Within, Targets, Piece, ticked, full_part, 
 use Rattle.codegen.specs.Covered.{all_true, expr_covered, covered_if, stores_covered, all_declared_covered, begins_once, stmt_covered_step, stmt_covered}
 use Rattle.codegen.proofs.Running.{Standing, Does, Told, fewer, from_place, does_push, does_pop, does_local, does_store, does_copy, does_zero, does_jump, does_if_zero, does_tick}
 use Rattle.codegen.proofs.Spanning.{Spans, Stands, spans_none, spans_one, spans_then, spans_first, lies, told_behind, told_next, line_behind}
-use Rattle.codegen.proofs.Valuing.{here_in, around_with, has_value}
+use Rattle.c_types.specs.declared.program.Function.{Function}
+use Rattle.codegen.proofs.Valuing.{DoesCalls, here_in, around_with, has_value}
 use Rattle.codegen.proofs.Measuring.{and_left, and_right, calm_code}
 use Rattle.codegen.proofs.Shaping.{SizedPiece, spans_split, spans_end, sized_piece, sized_full, sized_dropped, sized_test, sized_all_declared, sized_again, piece_roll, has_size}
 
@@ -67,9 +68,9 @@ acts_roll : (x : Stmt-F Stmt) → acts (roll-Stmt x) ≡ acts_step (map-Stmt Stm
 unfolding acts
 acts_roll x = fold-roll-Stmt Acts acts_step x
 
-covered_roll : (x : Stmt-F Stmt) → stmt_covered (roll-Stmt x) ≡ stmt_covered_step (map-Stmt Stmt Bool stmt_covered x)
+covered_roll : (fs : List Function) (x : Stmt-F Stmt) → (stmt_covered fs) (roll-Stmt x) ≡ (stmt_covered_step fs) (map-Stmt Stmt Bool (stmt_covered fs) x)
 unfolding stmt_covered
-covered_roll x = fold-roll-Stmt Bool stmt_covered_step x
+covered_roll fs x = fold-roll-Stmt Bool (stmt_covered_step fs) x
 
 pending_roll : (x : Stmt-F Stmt) → pending_of (roll-Stmt x) ≡ pending_step (map-Stmt Stmt (List Pending) pending_of x)
 unfolding pending_of
@@ -79,7 +80,7 @@ pending_roll x = fold-roll-Stmt (List Pending) pending_step x
 abbrev pub frame_in : Standing → Calling → (ℕ → ℕ) → ℕ → Frame
 frame_in s calling object unit = record { around = around_with calling object; start = s.start; unit = unit }
 
-module _ (code : Code) (s : Standing) (calling : Calling) (object : ℕ → ℕ) (unit : ℕ) where
+module _ (fs : List Function) (code : Code) (s : Standing) (calling : Calling) (calls : DoesCalls fs code s calling) (object : ℕ → ℕ) (unit : ℕ) where
   abbrev within : Within
   within = record { unit = unit; object = object }
 
@@ -87,18 +88,18 @@ module _ (code : Code) (s : Standing) (calling : Calling) (object : ℕ → ℕ)
   frame = frame_in s calling object unit
 
   -- a full expression, behind a tick point of its line
-  over_full : (e : FullExpr) (line place after : ℕ) (stack : List ℕ) (most : ℕ) (next : ℕ → Rest) → expr_covered e.expr ≡ true
+  over_full : (e : FullExpr) (line place after : ℕ) (stack : List ℕ) (most : ℕ) (next : ℕ → Rest) → (expr_covered fs) e.expr ≡ true
       → length stack + need_of e.expr ≤ operand_limit → Told code place (here_in s unit line) → Spans (Stands code) place (full_part within e) after
       → ((x : ℕ) → Does code s after (x ∷ stack) most (next x)) → Does code s place stack most (evaluated e frame line next)
   over_full e line place after stack most next covered fits told sp d =
-      (has_value code s calling object unit line e.expr).by place after stack most next fits
-      (lies code (here_in s unit line) place (full_part within e) after (calm_code object e.expr covered place) told sp) d
+      (has_value fs code s calling calls object unit line e.expr).by place after stack most next fits
+      (lies fs code (here_in s unit line) place (full_part within e) after (calm_code fs object e.expr covered place) told sp) d
 
-  told_full : (e : FullExpr) (line place after : ℕ) → expr_covered e.expr ≡ true → Told code place (here_in s unit line)
+  told_full : (e : FullExpr) (line place after : ℕ) → (expr_covered fs) e.expr ≡ true → Told code place (here_in s unit line)
       → Spans (Stands code) place (full_part within e) after → Told code after (here_in s unit line)
   told_full e line place after covered told sp =
       subst (λ p. Told code p (here_in s unit line)) (sym sp.after_is)
-      (told_behind code (here_in s unit line) place (full_part within e place) sp.instrs (calm_code object e.expr covered place) told)
+      (told_behind fs code (here_in s unit line) place (full_part within e place) sp.instrs (calm_code fs object e.expr covered place) told)
 
   -- the tick point before a part
   tick_first : (line place after : ℕ) (b : Part) → Spans (Stands code) place (ticked within line then b) after
@@ -125,34 +126,34 @@ module _ (code : Code) (s : Standing) (calling : Calling) (object : ℕ → ℕ)
 
   put_calm : (stored : Stored) (place line : ℕ) → slice_get code.instrs place ≡ Some (put_part stored) → Told code place (here_in s unit line)
       → Told code (place + 1) (here_in s unit line)
-  put_calm (Number k) place line is told = told_next code place (instr.Store k) (here_in s unit line) is tt told
-  put_calm (Structure size) place line is told = told_next code place (instr.Copy size) (here_in s unit line) is tt told
+  put_calm (Number k) place line is told = told_next fs code place (instr.Store k) (here_in s unit line) is tt told
+  put_calm (Structure size) place line is told = told_next fs code place (instr.Copy size) (here_in s unit line) is tt told
 
   put_and_pop : (stored : Stored) (p : ℕ) → slice_get code.instrs p ≡ Some (put_part stored) → slice_get code.instrs (p + 1) ≡ Some instr.Pop
       → Spans (Stands code) p (one (put_part stored) then one instr.Pop) (p + 1 + 1)
   unfolding ◌then◌
   put_and_pop stored p is pops = record { instrs = (is, (pops, tt)); after_is = omega arith }
 
-  over_stores : (ss : List Store) (line place after most : ℕ) (next : Rest) → stores_covered ss ≡ true → AllFit (flat_map in_store ss)
+  over_stores : (ss : List Store) (line place after most : ℕ) (next : Rest) → (stores_covered fs) ss ≡ true → AllFit (flat_map in_store ss)
       → Told code place (here_in s unit line) → Spans (Stands code) place (stores_part within ss) after
       → Does code s after [] most next → Does code s place [] most (stored_in_order ss frame line next)
   over_stores [] line place after most next covered fits told sp d =
       from_place code s _ _ _ _ _ (spans_none (Stands code) place after sp) d
   over_stores (a ∷ ss) line place after most next covered fits told sp d =
       let first = spans_first (Stands code) place after (instr.Local a.offset) _ sp in
-      let told1 = told_next code place (instr.Local a.offset) (here_in s unit line) first.0 tt told in
-      let here_covered = and_left (expr_covered a.value.expr) (stores_covered ss) covered in
+      let told1 = told_next fs code place (instr.Local a.offset) (here_in s unit line) first.0 tt told in
+      let here_covered = and_left ((expr_covered fs) a.value.expr) ((stores_covered fs) ss) covered in
       let value = spans_then (Stands code) (place + 1) after (full_part within a.value) _ first.1 in
       let told2 = told_full a.value line (place + 1) value.0 here_covered told1 value.1 in
       let putting = spans_first (Stands code) value.0 after (put_part a.stored) _ value.2 in
       let popping = spans_first (Stands code) (value.0 + 1) after instr.Pop (stores_part within ss) putting.1 in
       let told3 = put_calm a.stored value.0 line putting.0 told2 in
-      let told4 = told_next code (value.0 + 1) instr.Pop (here_in s unit line) popping.0 tt told3 in
+      let told4 = told_next fs code (value.0 + 1) instr.Pop (here_in s unit line) popping.0 tt told3 in
       let both : Spans (Stands code) value.0 (one (put_part a.stored) then one instr.Pop) (value.0 + 1 + 1) = put_and_pop a.stored value.0 putting.0 popping.0 in
       does_local code s a.offset place [] most _ first.0 (omega arith)
       (λ p. over_full a.value line (place + 1) value.0 (p ∷ []) most _ here_covered fits.0 told1 value.1
       (λ word. over_put a.stored p word line value.0 (value.0 + 1 + 1) most _ told2 both
-      (over_stores ss line (value.0 + 1 + 1) after most next (and_right (expr_covered a.value.expr) (stores_covered ss) covered) fits.1 told4 popping.1 d)))
+      (over_stores ss line (value.0 + 1 + 1) after most next (and_right ((expr_covered fs) a.value.expr) ((stores_covered fs) ss) covered) fits.1 told4 popping.1 d)))
 
   over_zeros : (span : Option Span) (line place after most : ℕ) (next : Rest) → Told code place (here_in s unit line) → Spans (Stands code) place (zeros_part span) after
       → Does code s after [] most next → Does code s place [] most (made_zero span frame (here_in s unit line) next)
@@ -160,10 +161,10 @@ module _ (code : Code) (s : Standing) (calling : Calling) (object : ℕ → ℕ)
   over_zeros (Some span) line place after most next told sp d =
       let first = spans_first (Stands code) place after (instr.Local span.offset) _ sp in
       let last = spans_one (Stands code) (place + 1) after (instr.Zero span.size) first.1 in
-      let told1 = told_next code place (instr.Local span.offset) (here_in s unit line) first.0 tt told in
+      let told1 = told_next fs code place (instr.Local span.offset) (here_in s unit line) first.0 tt told in
       let all = does_local code s span.offset place [] most (λ a. with_memory (λ m. writing (zeroed m a span.size) (here_in s unit line) next)) first.0 (omega arith)
       (λ a. does_zero code s span.size a (place + 1) [] most (here_in s unit line) next last.0 told1 (omega arith) (from_place code s _ _ _ _ _ last.1 d)) in
-      record { by = λ n answers done le. all.by n answers done le }
+      record { by = λ n answers done le top. all.by n answers done le top }
 
   told_zeros : (span : Option Span) (line place after : ℕ) → Told code place (here_in s unit line) → Spans (Stands code) place (zeros_part span) after
       → Told code after (here_in s unit line)
@@ -171,10 +172,10 @@ module _ (code : Code) (s : Standing) (calling : Calling) (object : ℕ → ℕ)
   told_zeros (Some span) line place after told sp =
       let first = spans_first (Stands code) place after (instr.Local span.offset) _ sp in
       let last = spans_one (Stands code) (place + 1) after (instr.Zero span.size) first.1 in
-      let told1 = told_next code place (instr.Local span.offset) (here_in s unit line) first.0 tt told in
-      subst (λ p. Told code p (here_in s unit line)) (sym last.1) (told_next code (place + 1) (instr.Zero span.size) (here_in s unit line) last.0 tt told1)
+      let told1 = told_next fs code place (instr.Local span.offset) (here_in s unit line) first.0 tt told in
+      subst (λ p. Told code p (here_in s unit line)) (sym last.1) (told_next fs code (place + 1) (instr.Zero span.size) (here_in s unit line) last.0 tt told1)
 
-  over_declared : (d : Declared) (place after most : ℕ) (next : Rest) → stores_covered d.stores ≡ true → AllFit (in_declared d)
+  over_declared : (d : Declared) (place after most : ℕ) (next : Rest) → (stores_covered fs) d.stores ≡ true → AllFit (in_declared d)
       → Spans (Stands code) place (declared_part within d) after → Does code s after [] most next → Does code s place [] most (declared d frame next)
   over_declared d place after most next covered fits sp does =
       let first = tick_first d.line place after _ sp in
@@ -184,18 +185,18 @@ module _ (code : Code) (s : Standing) (calling : Calling) (object : ℕ → ℕ)
       (over_stores d.stores d.line parts.0 after less next covered fits (told_zeros d.zeros d.line (place + 1) parts.0 first.1 parts.1) parts.2
       (fewer code s after [] most less next (omega (arith, lt)) does)))
 
-  over_all_declared : (ds : List Declared) (place after most : ℕ) (next : Rest) → all_declared_covered ds ≡ true → AllFit (flat_map in_declared ds)
+  over_all_declared : (ds : List Declared) (place after most : ℕ) (next : Rest) → (all_declared_covered fs) ds ≡ true → AllFit (flat_map in_declared ds)
       → Spans (Stands code) place (all_declared_part within ds) after → Does code s after [] most next → Does code s place [] most (all_declared ds frame next)
   over_all_declared [] place after most next covered fits sp does = from_place code s _ _ _ _ _ (spans_none (Stands code) place after sp) does
   over_all_declared (d ∷ ds) place after most next covered fits sp does =
       let parts = spans_then (Stands code) place after (declared_part within d) (all_declared_part within ds) sp in
-      over_declared d place parts.0 most _ (and_left (stores_covered d.stores) (all_declared_covered ds) covered) (fit_front (in_declared d) (flat_map in_declared ds) fits) parts.1
-      (over_all_declared ds parts.0 after most next (and_right (stores_covered d.stores) (all_declared_covered ds) covered) (fit_back (in_declared d) (flat_map in_declared ds) fits) parts.2 does)
+      over_declared d place parts.0 most _ (and_left ((stores_covered fs) d.stores) ((all_declared_covered fs) ds) covered) (fit_front (in_declared d) (flat_map in_declared ds) fits) parts.1
+      (over_all_declared ds parts.0 after most next (and_right ((stores_covered fs) d.stores) ((all_declared_covered fs) ds) covered) (fit_back (in_declared d) (flat_map in_declared ds) fits) parts.2 does)
 
   -- ---- expressions in statements
 
   -- an expression behind its own tick point
-  ticked_full : (e : FullExpr) (line place after most : ℕ) (rest : Part) (next : ℕ → Rest) → expr_covered e.expr ≡ true → AllFit (pending 0 e)
+  ticked_full : (e : FullExpr) (line place after most : ℕ) (rest : Part) (next : ℕ → Rest) → (expr_covered fs) e.expr ≡ true → AllFit (pending 0 e)
       → Spans (Stands code) place (ticked within line then full_part within e then rest) after
       → ((less x : ℕ) → less < most → Does code s (place + 1 + expr_size e.expr) (x ∷ []) less (next x))
       → Does code s place [] most (tick (evaluated e frame line next))
@@ -211,7 +212,7 @@ module _ (code : Code) (s : Standing) (calling : Calling) (object : ℕ → ℕ)
   behind_full e line place after rest sp =
       (spans_split (Stands code) (place + 1) after (expr_size e.expr) (full_part within e) rest (sized_full within e) (tick_first line place after _ sp).2).1
 
-  over_dropped : (e : Option FullExpr) (line place after most : ℕ) (next : Rest) → covered_if e ≡ true → AllFit (pending_if e)
+  over_dropped : (e : Option FullExpr) (line place after most : ℕ) (next : Rest) → (covered_if fs) e ≡ true → AllFit (pending_if e)
       → Told code place (here_in s unit line) → Spans (Stands code) place (dropped_part within e) after
       → Does code s after [] most next → Does code s place [] most (evaluated_if e frame line next)
   over_dropped None line place after most next covered fits told sp d = from_place code s _ _ _ _ _ (spans_none (Stands code) place after sp) d
@@ -221,7 +222,7 @@ module _ (code : Code) (s : Standing) (calling : Calling) (object : ℕ → ℕ)
       over_full e line place parts.0 [] most _ covered fits.0 told parts.1
       (λ x. does_pop code s x parts.0 [] most next last.0 (omega arith) (from_place code s _ _ _ _ _ last.1 d))
 
-  over_test : (e : Option FullExpr) (end line place after most : ℕ) (holds fails : Rest) → covered_if e ≡ true → AllFit (pending_if e)
+  over_test : (e : Option FullExpr) (end line place after most : ℕ) (holds fails : Rest) → (covered_if fs) e ≡ true → AllFit (pending_if e)
       → Told code place (here_in s unit line) → Spans (Stands code) place (test_part within e end) after
       → Does code s after [] most holds → Does code s end [] most fails → Does code s place [] most (tested e frame line holds fails)
   over_test None end line place after most holds fails covered fits told sp d f = from_place code s _ _ _ _ _ (spans_none (Stands code) place after sp) d
@@ -265,9 +266,9 @@ module _ (code : Code) (s : Standing) (calling : Calling) (object : ℕ → ℕ)
       → (most : ℕ) (t : Targets) (exits : Exits) (next : Rest) → Leads code s most t exits → Does code s after [] most next
       → Does code s start [] most (loop test m step frame exits next)
   over_loop line test step p m start body behind into after l most t exits next leads d = record {
-    by = λ n answers done le.
+    by = λ n answers done le top.
         (over_turns line test step p m start body behind into after l (suc n) n t exits next (omega arith) (leads_fewer code s most n t exits le leads)
-        (fewer code s after [] most n next le d)).by n answers done (omega arith);
+        (fewer code s after [] most n next le d)).by n answers done (omega arith) top;
   }
 
   -- the turns of a `do`, from its body on
@@ -292,15 +293,15 @@ module _ (code : Code) (s : Standing) (calling : Calling) (object : ℕ → ℕ)
       → (most : ℕ) (t : Targets) (exits : Exits) (next : Rest) → Leads code s most t exits → Does code s after [] most next
       → Does code s body [] most (do_loop test m frame exits next)
   over_do line test p m start body behind after l most t exits next leads d = record {
-    by = λ n answers done le.
+    by = λ n answers done le top.
         (over_do_turns line test p m start body behind after l (suc n) n t exits next (omega arith) (leads_fewer code s most n t exits le leads)
-        (fewer code s after [] most n next le d)).by n answers done (omega arith);
+        (fewer code s after [] most n next le d)).by n answers done (omega arith) top;
   }
 
   -- ---- statements
 
   abbrev HasActs : Stmt → Type 0
-  HasActs a = stmt_covered a ≡ true → AllFit (pending_of a) → ActsAs code s frame (stmt_piece within a) ((acts a).whole)
+  HasActs a = (stmt_covered fs) a ≡ true → AllFit (pending_of a) → ActsAs code s frame (stmt_piece within a) ((acts a).whole)
 
   acts_empty : (line : ℕ) → ActsAs code s frame (stmt_step within (Stmt-F.Empty line)) ((acts_step (Stmt-F.Empty line)).whole)
   acts_empty line = record {
@@ -310,7 +311,7 @@ module _ (code : Code) (s : Standing) (calling : Calling) (object : ℕ → ℕ)
         (λ less lt. from_place code s _ _ _ _ _ first.1 (fewer code s after [] most less next (omega (arith, lt)) d));
   }
 
-  acts_express : (line : ℕ) (e : FullExpr) → expr_covered e.expr ≡ true → AllFit (pending 0 e)
+  acts_express : (line : ℕ) (e : FullExpr) → (expr_covered fs) e.expr ≡ true → AllFit (pending 0 e)
       → ActsAs code s frame (stmt_step within (Stmt-F.Express line e)) ((acts_step (Stmt-F.Express line e)).whole)
   acts_express line e covered fits = record {
     by = λ place after most t exits next sp leads d.
@@ -320,13 +321,13 @@ module _ (code : Code) (s : Standing) (calling : Calling) (object : ℕ → ℕ)
         (from_place code s _ _ _ _ _ last.1 (fewer code s after [] most less next (omega (arith, lt)) d)));
   }
 
-  acts_declare : (d : Declared) → stores_covered d.stores ≡ true → AllFit (in_declared d)
+  acts_declare : (d : Declared) → (stores_covered fs) d.stores ≡ true → AllFit (in_declared d)
       → ActsAs code s frame (stmt_step within (Stmt-F.Declare d)) ((acts_step (Stmt-F.Declare d)).whole)
   acts_declare d covered fits = record {
     by = λ place after most t exits next sp leads does. over_declared d place after most next covered fits sp does;
   }
 
-  acts_if : (line : ℕ) (e : FullExpr) (p : Piece) (a : Acts) → SizedPiece p → expr_covered e.expr ≡ true → AllFit (pending 0 e) → ActsAs code s frame p a.whole
+  acts_if : (line : ℕ) (e : FullExpr) (p : Piece) (a : Acts) → SizedPiece p → (expr_covered fs) e.expr ≡ true → AllFit (pending 0 e) → ActsAs code s frame p a.whole
       → ActsAs code s frame (stmt_step within (Stmt-F.If line e p None)) ((acts_step (Stmt-F.If line e a None)).whole)
   acts_if line e p a sized covered fits has = record {
     by = λ place after most t exits next sp leads d.
@@ -344,7 +345,7 @@ module _ (code : Code) (s : Standing) (calling : Calling) (object : ℕ → ℕ)
         (from_place code s _ _ _ _ _ e1 d'));
   }
 
-  acts_if_else : (line : ℕ) (e : FullExpr) (p q : Piece) (a b : Acts) → SizedPiece p → SizedPiece q → expr_covered e.expr ≡ true → AllFit (pending 0 e)
+  acts_if_else : (line : ℕ) (e : FullExpr) (p q : Piece) (a b : Acts) → SizedPiece p → SizedPiece q → (expr_covered fs) e.expr ≡ true → AllFit (pending 0 e)
       → ActsAs code s frame p a.whole → ActsAs code s frame q b.whole
       → ActsAs code s frame (stmt_step within (Stmt-F.If line e p (Some q))) ((acts_step (Stmt-F.If line e a (Some b))).whole)
   acts_if_else line e p q a b sized_p sized_q covered fits has others = record {
@@ -369,7 +370,7 @@ module _ (code : Code) (s : Standing) (calling : Calling) (object : ℕ → ℕ)
         (others.by otherwise after less t exits next jump.1 leads' d'));
   }
 
-  acts_while : (line : ℕ) (e : FullExpr) (p : Piece) (a : Acts) → SizedPiece p → expr_covered e.expr ≡ true → AllFit (pending 0 e) → ActsAs code s frame p a.whole
+  acts_while : (line : ℕ) (e : FullExpr) (p : Piece) (a : Acts) → SizedPiece p → (expr_covered fs) e.expr ≡ true → AllFit (pending 0 e) → ActsAs code s frame p a.whole
       → ActsAs code s frame (stmt_step within (Stmt-F.While line e p)) ((acts_step (Stmt-F.While line e a)).whole)
   acts_while line e p a sized covered fits has = record {
     by = λ place after most t exits next sp leads d.
@@ -400,7 +401,7 @@ module _ (code : Code) (s : Standing) (calling : Calling) (object : ℕ → ℕ)
         (from_place code s _ _ _ _ _ (sym e1) (fewer code s after [] most less next le d)));
   }
 
-  acts_do : (line : ℕ) (p : Piece) (e : FullExpr) (a : Acts) → SizedPiece p → expr_covered e.expr ≡ true → AllFit (pending 0 e) → ActsAs code s frame p a.whole
+  acts_do : (line : ℕ) (p : Piece) (e : FullExpr) (a : Acts) → SizedPiece p → (expr_covered fs) e.expr ≡ true → AllFit (pending 0 e) → ActsAs code s frame p a.whole
       → ActsAs code s frame (stmt_step within (Stmt-F.Do line p e)) ((acts_step (Stmt-F.Do line a e)).whole)
   acts_do line p e a sized covered fits has = record {
     by = λ place after most t exits next sp leads d.
@@ -457,7 +458,7 @@ module _ (code : Code) (s : Standing) (calling : Calling) (object : ℕ → ℕ)
         does_jump code s t.to_continue (place + 1) [] less _ last.0 (fewer code s _ _ most less _ (omega (arith, lt)) leads.on_continue));
   }
 
-  acts_return : (line : ℕ) (e : Option FullExpr) → covered_if e ≡ true → AllFit (pending_if e)
+  acts_return : (line : ℕ) (e : Option FullExpr) → (covered_if fs) e ≡ true → AllFit (pending_if e)
       → ActsAs code s frame (stmt_step within (Stmt-F.Return line e)) ((acts_step (Stmt-F.Return line e)).whole)
   acts_return line None covered fits = record {
     by = λ place after most t exits next sp leads d.
@@ -476,7 +477,7 @@ module _ (code : Code) (s : Standing) (calling : Calling) (object : ℕ → ℕ)
   }
 
   over_begin : (ds : List Declared) (start : Option FullExpr) (line place middle after most : ℕ) (next : Rest) → begins_once ds start ≡ true
-      → all_declared_covered ds ≡ true → covered_if start ≡ true → AllFit (flat_map in_declared ds) → AllFit (pending_if start)
+      → (all_declared_covered fs) ds ≡ true → (covered_if fs) start ≡ true → AllFit (flat_map in_declared ds) → AllFit (pending_if start)
       → Told code place (here_in s unit line) → Spans (Stands code) place (all_declared_part within ds) middle → Spans (Stands code) middle (dropped_part within start) after
       → Does code s after [] most next → Does code s place [] most (all_declared ds frame (evaluated_if start frame line next))
   over_begin [] start line place middle after most next once covered_ds covered_start fits_ds fits_start told sp sp' d =
@@ -488,7 +489,7 @@ module _ (code : Code) (s : Standing) (calling : Calling) (object : ℕ → ℕ)
       absurd (true≢false (sym once))
 
   -- the step of a `for`, and the place behind its body
-  over_again : (step : Option FullExpr) (line low end start into : ℕ) → covered_if step ≡ true → AllFit (pending_if step)
+  over_again : (step : Option FullExpr) (line low end start into : ℕ) → (covered_if fs) step ≡ true → AllFit (pending_if step)
       → Spans (Stands code) low (again_part within line step) end → low + 2 ≡ into
       → (most : ℕ) (r : Rest) → Does code s end [] most r → Does code s start [] most r
       → Does code s (continue_place step start into) [] most (evaluated_if step frame line r) × Does code s low [] most (evaluated_if step frame line r)
@@ -509,7 +510,7 @@ module _ (code : Code) (s : Standing) (calling : Calling) (object : ℕ → ℕ)
       (from_place code s _ _ _ _ _ is does', does_jump code s (low + 2) low [] most _ first.0 does')
 
   acts_for : (line : ℕ) (ds : List Declared) (start test step : Option FullExpr) (p : Piece) (a : Acts) → SizedPiece p
-      → begins_once ds start ≡ true → all_declared_covered ds ≡ true → covered_if start ≡ true → covered_if test ≡ true → covered_if step ≡ true
+      → begins_once ds start ≡ true → (all_declared_covered fs) ds ≡ true → (covered_if fs) start ≡ true → (covered_if fs) test ≡ true → (covered_if fs) step ≡ true
       → AllFit (flat_map in_declared ds) → AllFit (pending_if start) → AllFit (pending_if test) → AllFit (pending_if step) → ActsAs code s frame p a.whole
       → ActsAs code s frame (stmt_step within (Stmt-F.For line ds start test step p)) ((acts_step (Stmt-F.For line ds start test step a)).whole)
   acts_for line ds start test step p a sized once covered_ds covered_start covered_test covered_step fits_ds fits_start fits_test fits_step has = record {
@@ -565,7 +566,7 @@ module _ (code : Code) (s : Standing) (calling : Calling) (object : ℕ → ℕ)
   abbrev closed : Stmt-F Known → Stmt-F Stmt
   closed y = map-Stmt Known Stmt (λ p. p.0) y
 
-  acts_all : (ss : List Known) → all_true (map stmt_covered (map (λ p. p.0) ss)) ≡ true → AllFit (joined (map pending_of (map (λ p. p.0) ss)))
+  acts_all : (ss : List Known) → all_true (map (stmt_covered fs) (map (λ p. p.0) ss)) ≡ true → AllFit (joined (map pending_of (map (λ p. p.0) ss)))
       → (place after most : ℕ) (t : Targets) (exits : Exits) (next : Rest)
       → Spans (Stands code) place (in_order_part (map (stmt_piece within) (map (λ p. p.0) ss)) t) after
       → Leads code s most t exits → Does code s after [] most next
@@ -574,11 +575,11 @@ module _ (code : Code) (s : Standing) (calling : Calling) (object : ℕ → ℕ)
   acts_all (a ∷ ss) covered fits place after most t exits next sp leads d =
       let parts = spans_then (Stands code) place after ((stmt_piece within a.0).part t) _ sp in
       let rest = joined (map pending_of (map (λ p. p.0) ss)) in
-      let others = all_true (map stmt_covered (map (λ p. p.0) ss)) in
-      (a.1 (and_left (stmt_covered a.0) others covered) (fit_front (pending_of a.0) rest fits)).by place parts.0 most t exits _ parts.1 leads
-      (acts_all ss (and_right (stmt_covered a.0) others covered) (fit_back (pending_of a.0) rest fits) parts.0 after most t exits next parts.2 leads d)
+      let others = all_true (map (stmt_covered fs) (map (λ p. p.0) ss)) in
+      (a.1 (and_left ((stmt_covered fs) a.0) others covered) (fit_front (pending_of a.0) rest fits)).by place parts.0 most t exits _ parts.1 leads
+      (acts_all ss (and_right ((stmt_covered fs) a.0) others covered) (fit_back (pending_of a.0) rest fits) parts.0 after most t exits next parts.2 leads d)
 
-  layer : (y : Stmt-F Known) → stmt_covered_step (map-Stmt Stmt Bool stmt_covered (closed y)) ≡ true
+  layer : (y : Stmt-F Known) → (stmt_covered_step fs) (map-Stmt Stmt Bool (stmt_covered fs) (closed y)) ≡ true
       → AllFit (pending_step (map-Stmt Stmt (List Pending) pending_of (closed y)))
       → ActsAs code s frame (stmt_step within (map-Stmt Stmt Piece (stmt_piece within) (closed y))) ((acts_step (map-Stmt Stmt Acts acts (closed y))).whole)
   layer (Stmt-F.Empty line) covered fits = acts_empty line
@@ -586,32 +587,32 @@ module _ (code : Code) (s : Standing) (calling : Calling) (object : ℕ → ℕ)
   layer (Stmt-F.Declare d) covered fits = acts_declare d covered fits
   layer (Stmt-F.Block ss) covered fits = record { by = acts_all ss covered fits }
   layer (Stmt-F.If line e a None) covered fits =
-      let inner = and_right (expr_covered e.expr) (stmt_covered a.0 && true) covered in
+      let inner = and_right ((expr_covered fs) e.expr) ((stmt_covered fs) a.0 && true) covered in
       let rest = fit_back (pending 0 e) (pending_of a.0 ++ []) fits in
-      acts_if line e (stmt_piece within a.0) (acts a.0) (has_size within a.0) (and_left (expr_covered e.expr) (stmt_covered a.0 && true) covered) (fit_front (pending 0 e) (pending_of a.0 ++ []) fits)
-      (a.1 (and_left (stmt_covered a.0) true inner) (fit_front (pending_of a.0) [] rest))
+      acts_if line e (stmt_piece within a.0) (acts a.0) (has_size within a.0) (and_left ((expr_covered fs) e.expr) ((stmt_covered fs) a.0 && true) covered) (fit_front (pending 0 e) (pending_of a.0 ++ []) fits)
+      (a.1 (and_left ((stmt_covered fs) a.0) true inner) (fit_front (pending_of a.0) [] rest))
   layer (Stmt-F.If line e a (Some b)) covered fits =
-      let inner = and_right (expr_covered e.expr) (stmt_covered a.0 && stmt_covered b.0) covered in
+      let inner = and_right ((expr_covered fs) e.expr) ((stmt_covered fs) a.0 && (stmt_covered fs) b.0) covered in
       let rest = fit_back (pending 0 e) (pending_of a.0 ++ pending_of b.0) fits in
-      acts_if_else line e (stmt_piece within a.0) (stmt_piece within b.0) (acts a.0) (acts b.0) (has_size within a.0) (has_size within b.0) (and_left (expr_covered e.expr) (stmt_covered a.0 && stmt_covered b.0) covered)
+      acts_if_else line e (stmt_piece within a.0) (stmt_piece within b.0) (acts a.0) (acts b.0) (has_size within a.0) (has_size within b.0) (and_left ((expr_covered fs) e.expr) ((stmt_covered fs) a.0 && (stmt_covered fs) b.0) covered)
       (fit_front (pending 0 e) (pending_of a.0 ++ pending_of b.0) fits)
-      (a.1 (and_left (stmt_covered a.0) (stmt_covered b.0) inner) (fit_front (pending_of a.0) (pending_of b.0) rest))
-      (b.1 (and_right (stmt_covered a.0) (stmt_covered b.0) inner) (fit_back (pending_of a.0) (pending_of b.0) rest))
+      (a.1 (and_left ((stmt_covered fs) a.0) ((stmt_covered fs) b.0) inner) (fit_front (pending_of a.0) (pending_of b.0) rest))
+      (b.1 (and_right ((stmt_covered fs) a.0) ((stmt_covered fs) b.0) inner) (fit_back (pending_of a.0) (pending_of b.0) rest))
   layer (Stmt-F.While line e a) covered fits =
-      acts_while line e (stmt_piece within a.0) (acts a.0) (has_size within a.0) (and_left (expr_covered e.expr) (stmt_covered a.0) covered) (fit_front (pending 0 e) (pending_of a.0) fits)
-      (a.1 (and_right (expr_covered e.expr) (stmt_covered a.0) covered) (fit_back (pending 0 e) (pending_of a.0) fits))
+      acts_while line e (stmt_piece within a.0) (acts a.0) (has_size within a.0) (and_left ((expr_covered fs) e.expr) ((stmt_covered fs) a.0) covered) (fit_front (pending 0 e) (pending_of a.0) fits)
+      (a.1 (and_right ((expr_covered fs) e.expr) ((stmt_covered fs) a.0) covered) (fit_back (pending 0 e) (pending_of a.0) fits))
   layer (Stmt-F.Do line a e) covered fits =
-      acts_do line (stmt_piece within a.0) e (acts a.0) (has_size within a.0) (and_left (expr_covered e.expr) (stmt_covered a.0) covered) (fit_back (pending_of a.0) (pending 0 e) fits)
-      (a.1 (and_right (expr_covered e.expr) (stmt_covered a.0) covered) (fit_front (pending_of a.0) (pending 0 e) fits))
+      acts_do line (stmt_piece within a.0) e (acts a.0) (has_size within a.0) (and_left ((expr_covered fs) e.expr) ((stmt_covered fs) a.0) covered) (fit_back (pending_of a.0) (pending 0 e) fits)
+      (a.1 (and_right ((expr_covered fs) e.expr) ((stmt_covered fs) a.0) covered) (fit_front (pending_of a.0) (pending 0 e) fits))
   layer (Stmt-F.For line ds start test step a) covered fits =
-      let c4 = covered_if step && stmt_covered a.0 in
-      let c3 = covered_if test && c4 in
-      let c2 = covered_if start && c3 in
-      let c1 = all_declared_covered ds && c2 in
+      let c4 = (covered_if fs) step && (stmt_covered fs) a.0 in
+      let c3 = (covered_if fs) test && c4 in
+      let c2 = (covered_if fs) start && c3 in
+      let c1 = (all_declared_covered fs) ds && c2 in
       let k1 = and_right (begins_once ds start) c1 covered in
-      let k2 = and_right (all_declared_covered ds) c2 k1 in
-      let k3 = and_right (covered_if start) c3 k2 in
-      let k4 = and_right (covered_if test) c4 k3 in
+      let k2 = and_right ((all_declared_covered fs) ds) c2 k1 in
+      let k3 = and_right ((covered_if fs) start) c3 k2 in
+      let k4 = and_right ((covered_if fs) test) c4 k3 in
       let g1 = flat_map in_declared ds in
       let g2 = g1 ++ pending_if start in
       let g3 = g2 ++ pending_if test in
@@ -619,10 +620,10 @@ module _ (code : Code) (s : Standing) (calling : Calling) (object : ℕ → ℕ)
       let h4 = fit_front g4 (pending_of a.0) fits in
       let h3 = fit_front g3 (pending_if step) h4 in
       let h2 = fit_front g2 (pending_if test) h3 in
-      acts_for line ds start test step (stmt_piece within a.0) (acts a.0) (has_size within a.0) (and_left (begins_once ds start) c1 covered) (and_left (all_declared_covered ds) c2 k1)
-      (and_left (covered_if start) c3 k2) (and_left (covered_if test) c4 k3) (and_left (covered_if step) (stmt_covered a.0) k4)
+      acts_for line ds start test step (stmt_piece within a.0) (acts a.0) (has_size within a.0) (and_left (begins_once ds start) c1 covered) (and_left ((all_declared_covered fs) ds) c2 k1)
+      (and_left ((covered_if fs) start) c3 k2) (and_left ((covered_if fs) test) c4 k3) (and_left ((covered_if fs) step) ((stmt_covered fs) a.0) k4)
       (fit_front g1 (pending_if start) h2) (fit_back g1 (pending_if start) h2) (fit_back g2 (pending_if test) h3) (fit_back g3 (pending_if step) h4)
-      (a.1 (and_right (covered_if step) (stmt_covered a.0) k4) (fit_back g4 (pending_of a.0) fits))
+      (a.1 (and_right ((covered_if fs) step) ((stmt_covered fs) a.0) k4) (fit_back g4 (pending_of a.0) fits))
   layer (Stmt-F.Switch line e cases default a) covered fits = absurd (true≢false (sym covered))
   layer (Stmt-F.Labelled label a) covered fits = acts_labelled label (stmt_piece within a.0) (acts a.0) (a.1 covered fits)
   layer (Stmt-F.Break line) covered fits = acts_break line
@@ -632,7 +633,7 @@ module _ (code : Code) (s : Standing) (calling : Calling) (object : ℕ → ℕ)
   layers : (y : Stmt-F Known) → HasActs (roll-Stmt (closed y))
   layers y covered fits =
       let x = closed y in
-      let has = layer y (sym (covered_roll x) ∙ covered) (subst AllFit (pending_roll x) fits) in
+      let has = layer y (sym (covered_roll fs x) ∙ covered) (subst AllFit (pending_roll x) fits) in
       subst (λ p. ActsAs code s frame p ((acts (roll-Stmt x)).whole)) (sym (piece_roll within x))
       (subst (λ a. ActsAs code s frame (stmt_step within (map-Stmt Stmt Piece (stmt_piece within) x)) (a.whole)) (sym (acts_roll x)) has)
 
@@ -640,7 +641,7 @@ module _ (code : Code) (s : Standing) (calling : Calling) (object : ℕ → ℕ)
   has_acts = ind-Stmt HasActs (λ x y is. subst (λ z. HasActs (roll-Stmt z)) is (layers y))
 
   -- the statements of a function, behind which it returns 0
-  pub does_statements : (ss : List Stmt) → all_true (map stmt_covered ss) ≡ true → AllFit (flat_map pending_of ss)
+  pub does_statements : (ss : List Stmt) → all_true (map (stmt_covered fs) ss) ≡ true → AllFit (flat_map pending_of ss)
       → (place after most : ℕ) (t : Targets) (exits : Exits)
       → Spans (Stands code) place (in_order_part (map (stmt_piece within) ss) t) after
       → Leads code s most t exits → Does code s after [] most (exits.on_return 0) → Does code s place [] most (statements ss frame exits)
@@ -648,6 +649,6 @@ module _ (code : Code) (s : Standing) (calling : Calling) (object : ℕ → ℕ)
   does_statements (a ∷ ss) covered fits place after most t exits sp leads d =
       let parts = spans_then (Stands code) place after ((stmt_piece within a).part t) _ sp in
       let rest = flat_map pending_of ss in
-      let others = all_true (map stmt_covered ss) in
-      (has_acts a (and_left (stmt_covered a) others covered) (fit_front (pending_of a) rest fits)).by place parts.0 most t exits _ parts.1 leads
-      (does_statements ss (and_right (stmt_covered a) others covered) (fit_back (pending_of a) rest fits) parts.0 after most t exits parts.2 leads d)
+      let others = all_true (map (stmt_covered fs) ss) in
+      (has_acts a (and_left ((stmt_covered fs) a) others covered) (fit_front (pending_of a) rest fits)).by place parts.0 most t exits _ parts.1 leads
+      (does_statements ss (and_right ((stmt_covered fs) a) others covered) (fit_back (pending_of a) rest fits) parts.0 after most t exits parts.2 leads d)

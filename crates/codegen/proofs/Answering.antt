@@ -13,12 +13,12 @@ use Rattle.c_types.specs.Need.{IsSimple, IsTooComplex}
 use Rattle.codegen.specs.declared.error.GenError.{GenError}
 use Rattle.codegen.specs.declared.error.GenError.TheVariants.{TooComplex, NoMain, NotCovered, TooLong, Memory}
 use Rattle.codegen.specs.Statements.{entries_from, offset_in, program_part, IsCodeOf}
-use Rattle.codegen.specs.Covered.{all_true, stmt_covered, IsCovered}
+use Rattle.codegen.specs.Covered.{all_true, function_covered, IsCovered}
 use Rattle.codegen.specs.Checking.{found_in_all}
 use Rattle.codegen.specs.Answers.{IsReady, IsMade, IsTooLong, IsNotCovered, Refuses, Answers}
 use Rattle.codegen.proofs.Bounding.{loops_tick}
 use Rattle.codegen.proofs.Meaning.{means_program}
-use Rattle.codegen.proofs.Covering.{main_covered, body_covered, no_body}
+use Rattle.codegen.proofs.Covering.{main_covered, main_body, no_body}
 use Rattle.codegen.proofs.Least.{found_is_first}
 
 -- ---- a refusal that is true is answered
@@ -149,11 +149,13 @@ covered_or_not program main = by_function (slice_get program.functions main.func
     tell false h = inr h
 
     by_body : (f : Function) (o : Option Body) → slice_get program.functions main.function ≡ Some f → f.body ≡ o → IsCovered program main ⊎ (IsCovered program main → ⊥)
-    by_body f None is none = tell false (main_covered program main f false is (no_body f.body none))
+    by_body f None is none =
+        let all = all_true (map (function_covered program.functions) program.functions) in
+        tell false (main_covered program main f false all false is (no_body f.body none) refl refl)
     by_body f (Some body) is some =
         let few = nat_le (length body.parameters) 2 in
-        let all = all_true (map stmt_covered body.stmts) in
-        tell (few && all) (main_covered program main f (few && all) is (body_covered f.body body body.stmts (length body.parameters) few all (few && all) some refl refl refl refl refl))
+        let all = all_true (map (function_covered program.functions) program.functions) in
+        tell (few && all) (main_covered program main f few all (few && all) is (main_body f.body body (length body.parameters) few some refl refl) refl refl)
 
     by_function : (o : Option Function) → slice_get program.functions main.function ≡ o → IsCovered program main ⊎ (IsCovered program main → ⊥)
     by_function None is = inr (λ c. let e : None ≡ Some c.function = sym is ∙ c.function_is in cc (e))

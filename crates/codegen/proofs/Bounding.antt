@@ -64,7 +64,7 @@ module _ (instrs : List Instr) where
   forward_bounded place (instr.Mpi f n second) is = λ q e le. absurd (cc (e))
   forward_bounded place instr.Return is = λ q e le. absurd (cc (e))
 
-  has_bounded : (c : Bool) (place : ℕ) (is : List Instr) → HasAt (Fair c) place is → HasAt Bounded place is
+  has_bounded : (c : Bool) (place : ℕ) (is : List Instr) → HasAt (Fair [] c) place is → HasAt Bounded place is
   has_bounded c place [] h = tt
   has_bounded c place (i ∷ is) h = (forward_bounded place i h.0.0, has_bounded c (place + 1) is h.1)
 
@@ -89,7 +89,7 @@ module _ (instrs : List Instr) where
 
   module _ (w : Within) where
     bounds_full : (e : FullExpr) (place : ℕ) → Bounds place (full_part w e)
-    bounds_full e place = has_bounded _ place (full_part w e place) ((measured w.object e.expr).fair place)
+    bounds_full e place = has_bounded _ place (full_part w e place) ((measured [] w.object e.expr).fair place)
 
     bounds_ticked : (line : ℕ) (b : Part) (place : ℕ) → Bounds (place + 1) b → Bounds place (ticked w line then b)
     bounds_ticked line b place y = bounds_before (instr.Tick w.unit line) b place (plain (instr.Tick w.unit line) place (λ p. tt)) y

@@ -1,13 +1,14 @@
 -- The machine runs backward over calls: of the library, of MPI and of functions, and over a return.
-use Rattle.std.proofs.Common.{◌≡◌, ◌⊎◌, inl, inr, ℕ, zero, suc, ◌+◌, ◌≤◌, ◌<◌, Bool, true, false, not, List, [], ◌∷◌, length, sym, ap, ◌∙◌, subst, arith}
+use Rattle.std.proofs.Common.{◌≡◌, ◌⊎◌, inl, inr, ℕ, zero, suc, ◌+◌, ◌-◌, ◌≤◌, ◌<◌, Bool, true, false, not, List, [], ◌∷◌, length, sym, ap, ◌∙◌, subst, arith}
 use Rattle.std.specs.Prelude.{slice_get, nat_le, nat_lt, if◌then◌else◌, Some}
 use Rattle.std.proofs.lemmas.Bool.{le-leb, lt-leb}
 use Rattle.std.proofs.lemmas.Bool.Decides.{leb_tells}
+use Rattle.std.proofs.lemmas.List.{length-take-le}
 use Rattle.am_base.specs.declared.traps.TrapCause.TheVariants.{TextLimit, DataStack, CallDepth}
 use Rattle.am_base.specs.declared.calls.LibCall.{LibCall}
 use Rattle.am_base.specs.declared.calls.MpiCall.{MpiCall}
 use Rattle.rank_range.specs.Areas.{Memory}
-use Rattle.rank_range.specs.Layout.{range_bytes}
+use Rattle.rank_range.specs.Layout.{range_bytes, stack_start}
 use Rattle.rank_range.specs.Kinds.{word_of, value_of}
 use Rattle.rank_range.specs.declared.kinds.Kind.TheVariants as kind
 use Rattle.mpi_types.specs.declared.call.Answer.{Answer}
@@ -15,7 +16,7 @@ use Rattle.mpi_types.specs.declared.call.Answer.TheVariants.{Half, Value, Trap, 
 use Rattle.vm_code.specs.declared.code.Code.{Code}
 use Rattle.vm_code.specs.declared.code.Function.{Function}
 use Rattle.vm_code.specs.declared.instr.Instr.TheVariants as instr
-use Rattle.vm_code.specs.Memory.{stack_top, with_frame, with_arguments, written_all}
+use Rattle.vm_code.specs.Memory.{stack_top, with_frame, with_arguments, written_all, cut_to}
 use Rattle.vm_code.specs.Stops.{Paused, Ended, Trapped, Done, asked, with_ticks, fits_text, printed}
 use Rattle.vm_code.specs.Library.{LibraryDone, Does as Gives, Fails, Exits, library_does}
 use Rattle.vm_code.specs.Machine as machine
@@ -23,6 +24,7 @@ use Rattle.vm_code.specs.Machine.{Config, Frame, Went, Stopped, Stuck, Stops, op
 use Rattle.c_model.specs.Outcome.{Rest, Here, tick, traps, with_memory, set_memory, stops}
 use Rattle.c_model.specs.Calls.{library_done, library_call, mpi_tick, mpi_call}
 use Rattle.c_model.specs.Statements.{left_frame}
+use Rattle.codegen.proofs.Keeping.{KeepsTop, library_keeps, written_keeps, arguments_keep, frame_tops}
 use Rattle.codegen.proofs.Running.{Standing, at, Does, Told, onto, many, goes, went, stopped, stepped}
 
 -- what ends the rank with a word as an int
@@ -43,37 +45,39 @@ module _ (code : Code) (s : Standing) where
   unfolding act
   does_library call words place stack most here next is told fits d = record { by = turn }
     where
-      printing_way : (n : ℕ) (answers : List Answer) (done : Done) → n ≤ most → (value : ℕ) (text : List ℕ) (m : Memory) (before : Done) (left : ℕ) (b : Bool)
+      printing_way : (n : ℕ) (answers : List Answer) (done : Done) → n ≤ most → (value : ℕ) (text : List ℕ) (m : Memory) → stack_top m ≡ s.finish → (before : Done) (left : ℕ) (b : Bool)
           → one_step code (at s place (onto words stack) left answers before) ≡ (if b
           then go_on (value ∷ stack) (machine.with_memory m (at s place (onto words stack) n answers (printed done text)))
           else machine.trapped code TextLimit stack (at s place (onto words stack) n answers done))
           → Stops code (at s place (onto words stack) left answers before)
           (if b then set_memory m (next value) n answers (printed done text) else traps TextLimit here n answers done).stop
           (if b then set_memory m (next value) n answers (printed done text) else traps TextLimit here n answers done).done
-      printing_way n answers done le value text m before left true e =
+      printing_way n answers done le value text m top before left true e =
           went code _ _ _ _ (e ∙ goes (value ∷ stack) (machine.with_memory m (at s place (onto words stack) n answers (printed done text))) (omega (arith, fits)))
-          ((d value).by n answers _ le)
-      printing_way n answers done le value text m before left false e = stopped code _ _ _
+          ((d value).by n answers _ le top)
+      printing_way n answers done le value text m top before left false e = stopped code _ _ _
           (e ∙ ap (λ p. Stopped (Trapped TextLimit p.unit p.line) (at s place stack n answers done)) told)
 
-      way : (n : ℕ) (answers : List Answer) (done : Done) → n ≤ most → (before : Done) (left : ℕ) (r : LibraryDone)
+      way : (n : ℕ) (answers : List Answer) (done : Done) → n ≤ most → stack_top done.memory ≡ s.finish → (before : Done) (left : ℕ) (r : LibraryDone)
+          → KeepsTop done.memory r
           → one_step code (at s place (onto words stack) left answers before) ≡ machine.library_done code r stack (at s place (onto words stack) n answers done)
           → Stops code (at s place (onto words stack) left answers before)
           (library_done r here next n answers done).stop (library_done r here next n answers done).done
-      way n answers done le before left (Gives value text m) e = printing_way n answers done le value text m before left (fits_text done text) e
-      way n answers done le before left (Fails cause) e = stopped code _ _ _
+      way n answers done le top before left (Gives value text m) keeps e =
+          printing_way n answers done le value text m (keeps ∙ top) before left (fits_text done text) e
+      way n answers done le top before left (Fails cause) keeps e = stopped code _ _ _
           (e ∙ ap (λ p. Stopped (Trapped cause p.unit p.line) (at s place stack n answers done)) told)
-      way n answers done le before left (Exits status) e = stopped code _ _ _ e
+      way n answers done le top before left (Exits status) keeps e = stopped code _ _ _ e
 
-      turn : (n : ℕ) (answers : List Answer) (done : Done) → n ≤ most
+      turn : (n : ℕ) (answers : List Answer) (done : Done) → n ≤ most → stack_top done.memory ≡ s.finish
           → Stops code (at s place (onto words stack) n answers done)
           (library_call call words here next n answers done).stop (library_call call words here next n answers done).done
-      turn zero answers done le =
+      turn zero answers done le top =
           stopped code _ _ Paused (stepped code s (instr.Library call (length words)) place (onto words stack) zero answers done is
           ∙ many words stack (λ ws rest. ticking zero (at s place (onto words stack) zero answers done)
           (λ c. machine.library_done code (library_does call ws c.done.memory) rest c)))
-      turn (suc n) answers done le =
-          way n answers (with_ticks done) (omega (arith, le)) done (suc n) (library_does call words done.memory)
+      turn (suc n) answers done le top =
+          way n answers (with_ticks done) (omega (arith, le)) top done (suc n) (library_does call words done.memory) (library_keeps call words done.memory)
           (stepped code s (instr.Library call (length words)) place (onto words stack) (suc n) answers done is
           ∙ many words stack (λ ws rest. ticking (suc n) (at s place (onto words stack) (suc n) answers done)
           (λ c. machine.library_done code (library_does call ws c.done.memory) rest c)))
@@ -91,22 +95,22 @@ module _ (code : Code) (s : Standing) where
           stepped code s (instr.Mpi call (length words) true) place (onto words stack) n answers done is
           ∙ many words stack (λ ws rest. machine_tick code n answers (call_of call ws true) rest (at s place (onto words stack) n answers done))
 
-      turn : (n : ℕ) (answers : List Answer) (done : Done) → n ≤ most
+      turn : (n : ℕ) (answers : List Answer) (done : Done) → n ≤ most → stack_top done.memory ≡ s.finish
           → Stops code (at s place (onto words stack) n answers done)
           (mpi_tick true call words here next n answers done).stop (mpi_tick true call words here next n answers done).done
-      turn zero answers done le = stopped code _ _ _ (step zero answers done)
-      turn (suc n) [] done le = stopped code _ _ _ (step (suc n) [] done)
-      turn (suc n) (Half ∷ answers) done le =
-          went code _ _ _ _ (step (suc n) (Half ∷ answers) done) (turn n answers (asked done (call_of call words true)) (omega (arith, le)))
-      turn (suc n) (Value result writes ∷ answers) done le =
+      turn zero answers done le top = stopped code _ _ _ (step zero answers done)
+      turn (suc n) [] done le top = stopped code _ _ _ (step (suc n) [] done)
+      turn (suc n) (Half ∷ answers) done le top =
+          went code _ _ _ _ (step (suc n) (Half ∷ answers) done) (turn n answers (asked done (call_of call words true)) (omega (arith, le)) top)
+      turn (suc n) (Value result writes ∷ answers) done le top =
           let asked_done : Done = asked done (call_of call words true) in
           went code _ _ _ _ (step (suc n) (Value result writes ∷ answers) done
           ∙ ap (λ (b : Bool). if b then Went (at s (place + 1) (word_of result ∷ stack) n answers (record asked_done { memory = written_all done.memory writes })) else Stuck)
           (le-leb (suc (length stack)) operand_limit fits))
-          ((d (word_of result)).by n answers _ (omega (arith, le)))
-      turn (suc n) (Trap cause ∷ answers) done le = stopped code _ _ _ (step (suc n) (Trap cause ∷ answers) done
+          ((d (word_of result)).by n answers _ (omega (arith, le)) (written_keeps done.memory writes ∙ top))
+      turn (suc n) (Trap cause ∷ answers) done le top = stopped code _ _ _ (step (suc n) (Trap cause ∷ answers) done
           ∙ ap (λ p. Stopped (Trapped cause p.unit p.line) (at s place stack n answers (asked done (call_of call words true)))) told)
-      turn (suc n) (End status ∷ answers) done le = stopped code _ _ _ (step (suc n) (End status ∷ answers) done)
+      turn (suc n) (End status ∷ answers) done le top = stopped code _ _ _ (step (suc n) (End status ∷ answers) done)
 
   pub does_mpi : (call : MpiCall) (words : List ℕ) (place : ℕ) (stack : List ℕ) (most : ℕ) (here : Here) (next : ℕ → Rest)
       → slice_get code.instrs place ≡ Some (instr.Mpi call (length words) false) → Told code place here
@@ -127,22 +131,22 @@ module _ (code : Code) (s : Standing) where
           does_second call words (place + 1) stack most here next then_is then_told fits
           (λ x. subst (λ p. Does code s p (x ∷ stack) most (next x)) e (d x))
 
-      turn : (n : ℕ) (answers : List Answer) (done : Done) → n ≤ most
+      turn : (n : ℕ) (answers : List Answer) (done : Done) → n ≤ most → stack_top done.memory ≡ s.finish
           → Stops code (at s place (onto words stack) n answers done)
           (mpi_call call words here next n answers done).stop (mpi_call call words here next n answers done).done
-      turn zero answers done le = stopped code _ _ _ (step zero answers done)
-      turn (suc n) [] done le = stopped code _ _ _ (step (suc n) [] done)
-      turn (suc n) (Half ∷ answers) done le =
-          went code _ _ _ _ (step (suc n) (Half ∷ answers) done) (second.by n answers (asked done (call_of call words false)) (omega (arith, le)))
-      turn (suc n) (Value result writes ∷ answers) done le =
+      turn zero answers done le top = stopped code _ _ _ (step zero answers done)
+      turn (suc n) [] done le top = stopped code _ _ _ (step (suc n) [] done)
+      turn (suc n) (Half ∷ answers) done le top =
+          went code _ _ _ _ (step (suc n) (Half ∷ answers) done) (second.by n answers (asked done (call_of call words false)) (omega (arith, le)) top)
+      turn (suc n) (Value result writes ∷ answers) done le top =
           let asked_done : Done = asked done (call_of call words false) in
           went code _ _ _ _ (step (suc n) (Value result writes ∷ answers) done
           ∙ ap (λ (b : Bool). if b then Went (at s (place + 2) (word_of result ∷ stack) n answers (record asked_done { memory = written_all done.memory writes })) else Stuck)
           (le-leb (suc (length stack)) operand_limit fits))
-          ((d (word_of result)).by n answers _ (omega (arith, le)))
-      turn (suc n) (Trap cause ∷ answers) done le = stopped code _ _ _ (step (suc n) (Trap cause ∷ answers) done
+          ((d (word_of result)).by n answers _ (omega (arith, le)) (written_keeps done.memory writes ∙ top))
+      turn (suc n) (Trap cause ∷ answers) done le top = stopped code _ _ _ (step (suc n) (Trap cause ∷ answers) done
           ∙ ap (λ p. Stopped (Trapped cause p.unit p.line) (at s place stack n answers (asked done (call_of call words false)))) told)
-      turn (suc n) (End status ∷ answers) done le = stopped code _ _ _ (step (suc n) (End status ∷ answers) done)
+      turn (suc n) (End status ∷ answers) done le top = stopped code _ _ _ (step (suc n) (End status ∷ answers) done)
 
   -- ---- functions
 
@@ -171,6 +175,10 @@ module _ (code : Code) (s : Standing) where
   unfolding act
   stops_call number function words place stack here body is function_is told shallow = turn
     where
+      tops : (done : Done) → stack_top (with_arguments function.parameters words (stack_top done.memory) (with_frame done.memory function.frame))
+          ≡ stack_top done.memory + function.frame
+      tops done = arguments_keep function.parameters words (stack_top done.memory) (with_frame done.memory function.frame) ∙ frame_tops done.memory function.frame
+
       way : (n : ℕ) (answers : List Answer) (done : Done) → Does code (inside function place stack (stack_top done.memory)) function.place [] n (body (stack_top done.memory))
           → (before : Done) (left : ℕ) (b : Bool)
           → one_step code (at s place (onto words stack) left answers before) ≡ (if not b then machine.trapped code DataStack stack (at s place (onto words stack) n answers done)
@@ -181,7 +189,7 @@ module _ (code : Code) (s : Standing) where
           else traps DataStack here) n answers done).stop
           ((if b then set_memory (with_arguments function.parameters words (stack_top done.memory) (with_frame done.memory function.frame)) (body (stack_top done.memory))
           else traps DataStack here) n answers done).done
-      way n answers done d before left true e = went code _ _ _ _ e (d.by n answers _ (omega arith))
+      way n answers done d before left true e = went code _ _ _ _ e (d.by n answers _ (omega arith) (tops done))
       way n answers done d before left false e = stopped code _ _ _
           (e ∙ ap (λ p. Stopped (Trapped DataStack p.unit p.line) (at s place stack n answers done)) told)
 
@@ -216,6 +224,60 @@ pub does_return : (code : Code) (s : Standing) (caller : Frame) (x place : ℕ) 
     → Does code s place (x ∷ stack) most (left_frame caller.finish ended x)
 unfolding act
 does_return code s caller x place stack most main is = record {
-  by = λ n answers done le. stopped code _ _ _ (stepped code s instr.Return place (x ∷ stack) n answers done is
+  by = λ n answers done le top. stopped code _ _ _ (stepped code s instr.Return place (x ∷ stack) n answers done is
       ∙ ap (λ callers. machine.left_to x callers (at s place stack n answers done)) main);
 }
+
+-- The call that waits: where it goes on when the one in which code runs returns.
+abbrev pub resumed : Frame → List Frame → Standing
+resumed caller callers = record { back = caller.back; start = caller.start; finish = caller.finish; callers = callers }
+
+cut_long : (m : Memory) (top : ℕ) → stack_start ≤ top → top ≤ stack_top m → stack_top (cut_to m top) ≡ top
+unfolding cut_to
+cut_long m top low high =
+    let e = length-take-le (top - stack_start) m.areas.stack (omega (arith, low, high)) in
+    omega (arith, e, low, high)
+
+-- a function returns to a call that waits
+pub does_leave : (code : Code) (s : Standing) (caller other : Frame) (others : List Frame) (x place : ℕ) (stack : List ℕ) (most : ℕ) (next : ℕ → Rest)
+    → s.callers ≡ caller ∷ other ∷ others → slice_get code.instrs place ≡ Some instr.Return → stack_start ≤ caller.finish → caller.finish ≤ s.finish
+    → length caller.operands < operand_limit
+    → Does code (resumed caller (other ∷ others)) s.back (x ∷ caller.operands) most (next x)
+    → Does code s place (x ∷ stack) most (left_frame caller.finish next x)
+unfolding act
+does_leave code s caller other others x place stack most next callers is low high fits d = record {
+  by = λ n answers done le top.
+      let back = resumed caller (other ∷ others) in
+      let left = cut_to done.memory caller.finish in
+      went code _ _ _ _ (stepped code s instr.Return place (x ∷ stack) n answers done is
+      ∙ ap (λ callers. machine.left_to x callers (at s place stack n answers done)) callers
+      ∙ ap (λ (b : Bool). if b then Went (at back s.back (x ∷ caller.operands) n answers (record done { memory = left })) else Stuck)
+      (le-leb (suc (length caller.operands)) operand_limit fits))
+      (d.by n answers (record done { memory = left }) le (cut_long done.memory caller.finish low (omega (arith, high, top))));
+}
+
+-- a call where as many wait as may
+pub does_deep : (code : Code) (s : Standing) (number : ℕ) (words : List ℕ) (place : ℕ) (stack : List ℕ) (most : ℕ) (here : Here) (function : Function)
+    → slice_get code.instrs place ≡ Some (instr.Call number (length words)) → slice_get code.functions number ≡ Some function
+    → Told code place here → call_limit ≤ length s.callers → Does code s place (onto words stack) most (tick (traps CallDepth here))
+unfolding act
+does_deep code s number words place stack most here function is function_is told deep = record { by = turn }
+  where
+    step : (n : ℕ) (answers : List Answer) (done : Done) → one_step code (at s place (onto words stack) n answers done)
+        ≡ ticking n (at s place (onto words stack) n answers done) (entered code (Some function) words stack)
+    step n answers done =
+        stepped code s (instr.Call number (length words)) place (onto words stack) n answers done is
+        ∙ many words stack (λ ws rest. ticking n (at s place (onto words stack) n answers done) (entered code (slice_get code.functions number) ws rest))
+        ∙ ap (λ f. ticking n (at s place (onto words stack) n answers done) (entered code f words stack)) function_is
+
+    turn : (n : ℕ) (answers : List Answer) (done : Done) → n ≤ most → stack_top done.memory ≡ s.finish
+        → Stops code (at s place (onto words stack) n answers done) (tick (traps CallDepth here) n answers done).stop (tick (traps CallDepth here) n answers done).done
+    turn zero answers done le top = stopped code _ _ Paused (step zero answers done)
+    turn (suc n) answers done le top =
+        let past : nat_le call_limit (length s.callers) ≡ true = le-leb call_limit (length s.callers) deep in
+        stopped code _ _ _ (step (suc n) answers done
+        ∙ ap (λ (b : Bool). if b then machine.trapped code CallDepth stack (at s place (onto words stack) n answers (with_ticks done))
+        else (if nat_lt range_bytes (stack_top done.memory + function.frame) then machine.trapped code DataStack stack (at s place (onto words stack) n answers (with_ticks done))
+        else Went (at (inside code s function place stack (stack_top done.memory)) function.place [] n answers
+        (record (with_ticks done) { memory = with_arguments function.parameters words (stack_top done.memory) (with_frame done.memory function.frame) })))) past
+        ∙ ap (λ p. Stopped (Trapped CallDepth p.unit p.line) (at s place stack n answers (with_ticks done))) told)

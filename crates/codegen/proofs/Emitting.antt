@@ -66,7 +66,7 @@ pub adds_all : {A : Type 0} (d0 d1 : Draft) (f : A → Part) (xs : List A) (i : 
 adds_all d0 d1 f xs i past x = subst (λ l. Adds d0 d1 (in_order (map f l))) (take_all i xs past) x
 
 pub sized_expr : (object : ℕ → ℕ) (e : Expr) → Sized (expr_part object e) (expr_size e)
-sized_expr object e = record { by = (measured object e).sized }
+sized_expr object e = record { by = (measured [] object e).sized }
 
 -- ---- expressions and operands
 

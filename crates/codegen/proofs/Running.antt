@@ -21,13 +21,14 @@ use Rattle.mpi_types.specs.declared.call.Answer.{Answer}
 use Rattle.vm_code.specs.declared.code.Code.{Code}
 use Rattle.vm_code.specs.declared.instr.Instr.{Instr}
 use Rattle.vm_code.specs.declared.instr.Instr.TheVariants as instr
-use Rattle.vm_code.specs.Memory.{address_of, loaded, stored, copied, zeroed}
+use Rattle.vm_code.specs.Memory.{address_of, stack_top, loaded, stored, copied, zeroed}
 use Rattle.vm_code.specs.Stops.{Stop, Paused, Trapped, Done, with_ticks}
 use Rattle.vm_code.specs.Lines.{Place, place_of}
 use Rattle.vm_code.specs.Machine as machine
 use Rattle.vm_code.specs.Machine.{Config, Frame, Moved, Went, Stopped, Stuck, Stops, operand_limit, act, one_step, follow, exec, go_on, at_place, with_many, call_of, second_place, behind_call}
 use Rattle.c_model.specs.Outcome.{Rest, Here, tick, traps, with_memory, reading, writing, with_result, choose}
 use Rattle.c_model.specs.Run.{load, store}
+use Rattle.codegen.proofs.Keeping.{stored_keeps, copied_keeps, zeroed_keeps}
 
 -- A call in which code runs: where it goes back to, where its frame lies, and the calls that wait for it.
 pub record Standing : Type 0 where
@@ -48,9 +49,9 @@ at s place stack n answers done = record {
 }
 
 -- From this place, with these operands, the machine stops as what comes next does, whatever was done before, where at most
--- so many ticks are left.
+-- so many ticks are left and the call's frame is on top of the data stack.
 pub record Does (code : Code) (s : Standing) (place : ℕ) (stack : List ℕ) (most : ℕ) (next : Rest) : Type 0 where
-  pub by : (n : ℕ) (answers : List Answer) (done : Done) → n ≤ most
+  pub by : (n : ℕ) (answers : List Answer) (done : Done) → n ≤ most → stack_top done.memory ≡ s.finish
       → Stops code (at s place stack n answers done) (next n answers done).stop (next n answers done).done
 
 -- traps at this place have this line
@@ -60,7 +61,7 @@ Told code place here = place_of code place ≡ record { unit = here.unit; line =
 -- fewer ticks
 pub fewer : (code : Code) (s : Standing) (place : ℕ) (stack : List ℕ) (most less : ℕ) (next : Rest) → less ≤ most
     → Does code s place stack most next → Does code s place stack less next
-fewer code s place stack most less next le d = record { by = λ n answers done l. d.by n answers done (omega (arith, le, l)) }
+fewer code s place stack most less next le d = record { by = λ n answers done l top. d.by n answers done (omega (arith, le, l)) top }
 
 -- what comes next, by its place
 pub from_place : (code : Code) (s : Standing) (place same : ℕ) (stack : List ℕ) (most : ℕ) (next : Rest) → same ≡ place
@@ -128,9 +129,9 @@ module _ (code : Code) (s : Standing) where
       → ((n : ℕ) (answers : List Answer) (done : Done) → act code (Some i) (at s place stack n answers done) ≡ go_on rest (at s place stack n answers done))
       → Does code s (place + 1) rest most next → Does code s place stack most next
   simply i place stack rest most next here fits acts d = record {
-    by = λ n answers done le.
+    by = λ n answers done le top.
         went code _ _ _ _ (stepped i place stack n answers done here ∙ acts n answers done ∙ goes rest (at s place stack n answers done) fits)
-        (d.by n answers done le);
+        (d.by n answers done le top);
   }
 
   pub does_push : (word place : ℕ) (stack : List ℕ) (most : ℕ) (next : Rest) → slice_get code.instrs place ≡ Some (instr.Push word)
@@ -170,9 +171,9 @@ module _ (code : Code) (s : Standing) where
       → Does code s place stack most (with_memory (λ m. next (address_of m (s.start + offset))))
   unfolding act
   does_local offset place stack most next here fits d = record {
-    by = λ n answers done le. let a = address_of done.memory (s.start + offset) in
+    by = λ n answers done le top. let a = address_of done.memory (s.start + offset) in
         went code _ _ _ _ (stepped (instr.Local offset) place stack n answers done here ∙ goes (a ∷ stack) (at s place stack n answers done) (omega (arith, fits)))
-        ((d a).by n answers done le);
+        ((d a).by n answers done le top);
   }
 
   pub does_global : (offset place : ℕ) (stack : List ℕ) (most : ℕ) (next : ℕ → Rest) → slice_get code.instrs place ≡ Some (instr.Global offset)
@@ -180,9 +181,9 @@ module _ (code : Code) (s : Standing) where
       → Does code s place stack most (with_memory (λ m. next (address_of m (globals_start + offset))))
   unfolding act
   does_global offset place stack most next here fits d = record {
-    by = λ n answers done le. let a = address_of done.memory (globals_start + offset) in
+    by = λ n answers done le top. let a = address_of done.memory (globals_start + offset) in
         went code _ _ _ _ (stepped (instr.Global offset) place stack n answers done here ∙ goes (a ∷ stack) (at s place stack n answers done) (omega (arith, fits)))
-        ((d a).by n answers done le);
+        ((d a).by n answers done le top);
   }
 
   -- a trap at a place of this line
@@ -197,36 +198,37 @@ module _ (code : Code) (s : Standing) where
       → ((x : ℕ) → IsWordOf k x → Does code s (place + 1) (x ∷ stack) most (next x)) → Does code s place (a ∷ stack) most (load k a here next)
   unfolding act loaded
   does_load k a place stack most here next is told fits d = record {
-    by = λ n answers done le. read n answers done le (number_of done.memory.areas a (bytes_in (width_of k)))
+    by = λ n answers done le top. read n answers done le top (number_of done.memory.areas a (bytes_in (width_of k)))
         (stepped (instr.Load k) place (a ∷ stack) n answers done is);
   }
     where
-      read : (n : ℕ) (answers : List Answer) (done : Done) → n ≤ most → (o : Option ℕ)
+      read : (n : ℕ) (answers : List Answer) (done : Done) → n ≤ most → stack_top done.memory ≡ s.finish → (o : Option ℕ)
           → one_step code (at s place (a ∷ stack) n answers done) ≡ machine.reading code (option_map (extended k) o) stack (at s place (a ∷ stack) n answers done)
           → Stops code (at s place (a ∷ stack) n answers done)
           (reading (option_map (extended k) o) here next n answers done).stop (reading (option_map (extended k) o) here next n answers done).done
-      read n answers done le None e = at_trap BadAddress place (a ∷ stack) stack here n answers done told e
-      read n answers done le (Some x) e =
+      read n answers done le top None e = at_trap BadAddress place (a ∷ stack) stack here n answers done told e
+      read n answers done le top (Some x) e =
           went code _ _ _ _ (e ∙ goes (extended k x ∷ stack) (at s place (a ∷ stack) n answers done) (omega (arith, fits)))
-          ((d (extended k x) (are_words k x)).by n answers done le)
+          ((d (extended k x) (are_words k x)).by n answers done le top)
 
   -- what is written, or a trap
   written : (place : ℕ) (stack rest : List ℕ) (most : ℕ) (here : Here) (next : Rest) → Told code place here → length rest ≤ operand_limit
       → Does code s (place + 1) rest most next
-      → (n : ℕ) (answers : List Answer) (done : Done) → n ≤ most → (o : Option Memory)
+      → (n : ℕ) (answers : List Answer) (done : Done) → n ≤ most → stack_top done.memory ≡ s.finish → (o : Option Memory)
+      → ((m : Memory) → o ≡ Some m → stack_top m ≡ stack_top done.memory)
       → one_step code (at s place stack n answers done) ≡ machine.writing code o rest (at s place stack n answers done)
       → Stops code (at s place stack n answers done) (writing o here next n answers done).stop (writing o here next n answers done).done
-  written place stack rest most here next told fits d n answers done le None e = at_trap BadAddress place stack rest here n answers done told e
-  written place stack rest most here next told fits d n answers done le (Some m) e =
-      went code _ _ _ _ (e ∙ goes rest (machine.with_memory m (at s place stack n answers done)) fits) (d.by n answers _ le)
+  written place stack rest most here next told fits d n answers done le top None keeps e = at_trap BadAddress place stack rest here n answers done told e
+  written place stack rest most here next told fits d n answers done le top (Some m) keeps e =
+      went code _ _ _ _ (e ∙ goes rest (machine.with_memory m (at s place stack n answers done)) fits) (d.by n answers _ le (keeps m refl ∙ top))
 
   pub does_store : (k : Kind) (a word place : ℕ) (stack : List ℕ) (most : ℕ) (here : Here) (next : Rest) → slice_get code.instrs place ≡ Some (instr.Store k)
       → Told code place here → length stack < operand_limit
       → Does code s (place + 1) (word ∷ stack) most next → Does code s place (word ∷ a ∷ stack) most (store k a word here next)
   unfolding act
   does_store k a word place stack most here next is told fits d = record {
-    by = λ n answers done le. written place (word ∷ a ∷ stack) (word ∷ stack) most here next told (omega (arith, fits)) d n answers done le
-        (stored done.memory k a word) (stepped (instr.Store k) place (word ∷ a ∷ stack) n answers done is);
+    by = λ n answers done le top. written place (word ∷ a ∷ stack) (word ∷ stack) most here next told (omega (arith, fits)) d n answers done le top
+        (stored done.memory k a word) (λ m e. stored_keeps done.memory m k a word e) (stepped (instr.Store k) place (word ∷ a ∷ stack) n answers done is);
   }
 
   pub does_copy : (size to from place : ℕ) (stack : List ℕ) (most : ℕ) (here : Here) (next : Rest) → slice_get code.instrs place ≡ Some (instr.Copy size)
@@ -235,8 +237,8 @@ module _ (code : Code) (s : Standing) where
       → Does code s place (from ∷ to ∷ stack) most (with_memory (λ m. writing (copied m to from size) here next))
   unfolding act
   does_copy size to from place stack most here next is told fits d = record {
-    by = λ n answers done le. written place (from ∷ to ∷ stack) (to ∷ stack) most here next told (omega (arith, fits)) d n answers done le
-        (copied done.memory to from size) (stepped (instr.Copy size) place (from ∷ to ∷ stack) n answers done is);
+    by = λ n answers done le top. written place (from ∷ to ∷ stack) (to ∷ stack) most here next told (omega (arith, fits)) d n answers done le top
+        (copied done.memory to from size) (λ m e. copied_keeps done.memory m to from size e) (stepped (instr.Copy size) place (from ∷ to ∷ stack) n answers done is);
   }
 
   pub does_zero : (size a place : ℕ) (stack : List ℕ) (most : ℕ) (here : Here) (next : Rest) → slice_get code.instrs place ≡ Some (instr.Zero size)
@@ -245,8 +247,8 @@ module _ (code : Code) (s : Standing) where
       → Does code s place (a ∷ stack) most (with_memory (λ m. writing (zeroed m a size) here next))
   unfolding act
   does_zero size a place stack most here next is told fits d = record {
-    by = λ n answers done le. written place (a ∷ stack) stack most here next told fits d n answers done le
-        (zeroed done.memory a size) (stepped (instr.Zero size) place (a ∷ stack) n answers done is);
+    by = λ n answers done le top. written place (a ∷ stack) stack most here next told fits d n answers done le top
+        (zeroed done.memory a size) (λ m e. zeroed_keeps done.memory m a size e) (stepped (instr.Zero size) place (a ∷ stack) n answers done is);
   }
 
   pub does_binary : (o : Operator) (k : Kind) (x y place : ℕ) (stack : List ℕ) (most : ℕ) (here : Here) (next : ℕ → Rest)
@@ -254,15 +256,15 @@ module _ (code : Code) (s : Standing) where
       → ((z : ℕ) → Does code s (place + 1) (z ∷ stack) most (next z)) → Does code s place (y ∷ x ∷ stack) most (with_result (operate o k x y) here next)
   unfolding act
   does_binary o k x y place stack most here next is told fits d = record {
-    by = λ n answers done le. given n answers done le (operate o k x y) (stepped (instr.Binary o k) place (y ∷ x ∷ stack) n answers done is);
+    by = λ n answers done le top. given n answers done le top (operate o k x y) (stepped (instr.Binary o k) place (y ∷ x ∷ stack) n answers done is);
   }
     where
-      given : (n : ℕ) (answers : List Answer) (done : Done) → n ≤ most → (r : Result ℕ TrapCause)
+      given : (n : ℕ) (answers : List Answer) (done : Done) → n ≤ most → stack_top done.memory ≡ s.finish → (r : Result ℕ TrapCause)
           → one_step code (at s place (y ∷ x ∷ stack) n answers done) ≡ machine.with_result code r stack (at s place (y ∷ x ∷ stack) n answers done)
           → Stops code (at s place (y ∷ x ∷ stack) n answers done) (with_result r here next n answers done).stop (with_result r here next n answers done).done
-      given n answers done le (Ok z) e =
-          went code _ _ _ _ (e ∙ goes (z ∷ stack) (at s place (y ∷ x ∷ stack) n answers done) (omega (arith, fits))) ((d z).by n answers done le)
-      given n answers done le (Err cause) e = at_trap cause place (y ∷ x ∷ stack) stack here n answers done told e
+      given n answers done le top (Ok z) e =
+          went code _ _ _ _ (e ∙ goes (z ∷ stack) (at s place (y ∷ x ∷ stack) n answers done) (omega (arith, fits))) ((d z).by n answers done le top)
+      given n answers done le top (Err cause) e = at_trap cause place (y ∷ x ∷ stack) stack here n answers done told e
 
   -- an operator that gives this word
   pub does_word : (o : Operator) (k : Kind) (x y z place : ℕ) (stack : List ℕ) (most : ℕ) (next : Rest)
@@ -277,7 +279,7 @@ module _ (code : Code) (s : Standing) where
       → Does code s to stack most next → Does code s place stack most next
   unfolding act
   does_jump to place stack most next is d = record {
-    by = λ n answers done le. went code _ _ _ _ (stepped (instr.Jump to) place stack n answers done is) (d.by n answers done le);
+    by = λ n answers done le top. went code _ _ _ _ (stepped (instr.Jump to) place stack n answers done is) (d.by n answers done le top);
   }
 
   -- the way that a word decides
@@ -285,27 +287,27 @@ module _ (code : Code) (s : Standing) where
       → Does code s (place + 1) stack most first → Does code s to stack most second → Does code s place (x ∷ stack) most (choose x first second)
   unfolding act
   does_if_zero to x place stack most first second is d e = record {
-    by = λ n answers done le. way n answers done le (nat_eq x 0) (stepped (instr.JumpIfZero to) place (x ∷ stack) n answers done is);
+    by = λ n answers done le top. way n answers done le top (nat_eq x 0) (stepped (instr.JumpIfZero to) place (x ∷ stack) n answers done is);
   }
     where
-      way : (n : ℕ) (answers : List Answer) (done : Done) → n ≤ most → (b : Bool)
+      way : (n : ℕ) (answers : List Answer) (done : Done) → n ≤ most → stack_top done.memory ≡ s.finish → (b : Bool)
           → one_step code (at s place (x ∷ stack) n answers done) ≡ Went (at s (if b then to else place + 1) stack n answers done)
           → Stops code (at s place (x ∷ stack) n answers done) ((if b then second else first) n answers done).stop ((if b then second else first) n answers done).done
-      way n answers done le true st = went code _ _ _ _ st (e.by n answers done le)
-      way n answers done le false st = went code _ _ _ _ st (d.by n answers done le)
+      way n answers done le top true st = went code _ _ _ _ st (e.by n answers done le top)
+      way n answers done le top false st = went code _ _ _ _ st (d.by n answers done le top)
 
   pub does_if_not : (to x place : ℕ) (stack : List ℕ) (most : ℕ) (first second : Rest) → slice_get code.instrs place ≡ Some (instr.JumpIfNot to)
       → Does code s to stack most first → Does code s (place + 1) stack most second → Does code s place (x ∷ stack) most (choose x first second)
   unfolding act
   does_if_not to x place stack most first second is d e = record {
-    by = λ n answers done le. way n answers done le (nat_eq x 0) (stepped (instr.JumpIfNot to) place (x ∷ stack) n answers done is);
+    by = λ n answers done le top. way n answers done le top (nat_eq x 0) (stepped (instr.JumpIfNot to) place (x ∷ stack) n answers done is);
   }
     where
-      way : (n : ℕ) (answers : List Answer) (done : Done) → n ≤ most → (b : Bool)
+      way : (n : ℕ) (answers : List Answer) (done : Done) → n ≤ most → stack_top done.memory ≡ s.finish → (b : Bool)
           → one_step code (at s place (x ∷ stack) n answers done) ≡ Went (at s (if b then place + 1 else to) stack n answers done)
           → Stops code (at s place (x ∷ stack) n answers done) ((if b then second else first) n answers done).stop ((if b then second else first) n answers done).done
-      way n answers done le true st = went code _ _ _ _ st (e.by n answers done le)
-      way n answers done le false st = went code _ _ _ _ st (d.by n answers done le)
+      way n answers done le top true st = went code _ _ _ _ st (e.by n answers done le top)
+      way n answers done le top false st = went code _ _ _ _ st (d.by n answers done le top)
 
   pub does_tick : (unit line place : ℕ) (stack : List ℕ) (most : ℕ) (next : Rest) → slice_get code.instrs place ≡ Some (instr.Tick unit line)
       → length stack ≤ operand_limit
@@ -313,9 +315,9 @@ module _ (code : Code) (s : Standing) where
   unfolding act
   does_tick unit line place stack most next is fits d = record { by = turn }
     where
-      turn : (n : ℕ) (answers : List Answer) (done : Done) → n ≤ most
+      turn : (n : ℕ) (answers : List Answer) (done : Done) → n ≤ most → stack_top done.memory ≡ s.finish
           → Stops code (at s place stack n answers done) (tick next n answers done).stop (tick next n answers done).done
-      turn zero answers done le = stopped code _ _ Paused (stepped (instr.Tick unit line) place stack zero answers done is)
-      turn (suc n) answers done le =
+      turn zero answers done le top = stopped code _ _ Paused (stepped (instr.Tick unit line) place stack zero answers done is)
+      turn (suc n) answers done le top =
           went code _ _ _ _ (stepped (instr.Tick unit line) place stack (suc n) answers done is
-          ∙ goes stack (at s place stack n answers (with_ticks done)) fits) ((d n (omega (arith, le))).by n answers _ (omega arith))
+          ∙ goes stack (at s place stack n answers (with_ticks done)) fits) ((d n (omega (arith, le))).by n answers _ (omega arith) top)

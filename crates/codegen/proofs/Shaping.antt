@@ -60,7 +60,7 @@ module _ (w : Within) where
   sized_ticked line = record { by = λ place. refl }
 
   pub sized_full : (e : FullExpr) → Sized (full_part w e) (expr_size e.expr)
-  sized_full e = record { by = (measured w.object e.expr).sized }
+  sized_full e = record { by = (measured [] w.object e.expr).sized }
 
   pub sized_dropped : (e : Option FullExpr) → Sized (dropped_part w e) (dropped_size e)
   sized_dropped None = sized_none

@@ -17,7 +17,7 @@ pub roll_out : (e : Expr) → roll-Expr (out-Expr e) ≡ e
 roll_out e = search (rules, the_lemmas)
 
 pub size_expr : (e : Expr) → expr_size e ≡ operand_sized e.first + total (map step_sized e.steps)
-size_expr e = ap expr_size (sym (roll_out e)) ∙ expr_size_roll (out-Expr e)
+size_expr e = ap expr_size (sym (roll_out e)) ∙ expr_size_roll [] (out-Expr e)
 
 pub code_expr : (object : ℕ → ℕ) (e : Expr) → expr_part object e ≡ (operand_code object e.first then in_order (map (step_code object) e.steps))
 code_expr object e = ap (expr_part object) (sym (roll_out e)) ∙ expr_code_roll object (out-Expr e)

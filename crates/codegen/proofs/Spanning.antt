@@ -1,5 +1,5 @@
 -- Where the parts of a code stand.
-use Rattle.std.proofs.Common.{◌≡◌, ℕ, zero, suc, ◌+◌, ◌<◌, Bool, List, [], ◌∷◌, ◌++◌, length, take, Some, add-one, refl, sym, ap, ◌∙◌, subst, arith, append_assoc, length-append}
+use Rattle.std.proofs.Common.{◌≡◌, ℕ, zero, suc, ◌+◌, ◌<◌, Bool, true, List, [], ◌∷◌, ◌++◌, length, take, Some, add-one, refl, sym, ap, ◌∙◌, subst, arith, append_assoc, length-append}
 use Rattle.std.specs.Prelude.{slice_get}
 use Rattle.std.proofs.Math.Seq.{get_or-append_seam}
 use Rattle.std.proofs.lemmas.Option.{slice_get-get_or}
@@ -9,6 +9,8 @@ use Rattle.vm_code.specs.declared.instr.Instr.TheVariants as instr
 use Rattle.vm_code.specs.declared.instr.Instr.TheVariants.{Push, Jump, JumpIfZero, Call, Tick}
 use Rattle.vm_code.specs.Lines.{Place, told_by, told_behind as lines_behind, place_of}
 use Rattle.c_model.specs.Outcome.{Here}
+use Rattle.c_types.specs.declared.program.Function.{Function}
+use Rattle.codegen.specs.Covered.{has_body}
 use Rattle.codegen.specs.Layout.{Part, nothing, one, ◌then◌, over, negation, jump_where, word_of_truth, opposite, truths}
 use Rattle.codegen.proofs.Running.{Told}
 
@@ -33,23 +35,19 @@ In instrs place i = slice_get instrs place ≡ Some i
 abbrev pub Stands : Code → Saying
 Stands code = In code.instrs
 
--- it calls no function, and tells no line
-abbrev pub IsCalm : Instr → Type 0
-IsCalm (Call function count) = ⊥
-IsCalm (Tick unit line) = ⊥
-IsCalm _ = Unit {0}
+-- it calls a function with a body, if it calls one, and tells no line
+abbrev pub IsCalm : List Function → Instr → Type 0
+IsCalm fs (Call function count) = has_body fs function ≡ true
+IsCalm fs (Tick unit line) = ⊥
+IsCalm fs _ = Unit {0}
 
 -- it stands there, it is calm, and the line of its traps is this one
-abbrev pub Lies : Code → Here → Saying
-Lies code here place i = Stands code place i × Told code place here × IsCalm i
+abbrev pub Lies : List Function → Code → Here → Saying
+Lies fs code here place i = Stands code place i × Told code place here × IsCalm fs i
 
-abbrev pub AreCalm : List Instr → Type 0
-AreCalm [] = Unit {0}
-AreCalm (i ∷ is) = IsCalm i × AreCalm is
-
-pub are_calm_append : (a b : List Instr) → AreCalm a → AreCalm b → AreCalm (a ++ b)
-are_calm_append [] b x y = y
-are_calm_append (i ∷ a) b x y = (x.0, are_calm_append a b x.1 y)
+abbrev pub AreCalm : List Function → List Instr → Type 0
+AreCalm fs [] = Unit {0}
+AreCalm fs (i ∷ is) = IsCalm fs i × AreCalm fs is
 
 module _ (says : Saying) where
   has_front : (place : ℕ) (a b : List Instr) → HasAt says place (a ++ b) → HasAt says place a
@@ -157,46 +155,46 @@ line_behind code place i e =
     ap (λ n. lines_behind start (take n code.instrs)) (add-one place) ∙ next_line start code.instrs place i e
 
 -- a calm instruction leaves the line as it is
-calm_tells : (before : Place) (i : Instr) → IsCalm i → told_by before i ≡ before
-calm_tells before (instr.Push w) calm = refl
-calm_tells before instr.Pop calm = refl
-calm_tells before instr.Dup calm = refl
-calm_tells before (instr.Local w) calm = refl
-calm_tells before (instr.Global w) calm = refl
-calm_tells before (instr.Load w) calm = refl
-calm_tells before (instr.Store w) calm = refl
-calm_tells before (instr.Copy w) calm = refl
-calm_tells before (instr.Zero w) calm = refl
-calm_tells before (instr.Binary o k) calm = refl
-calm_tells before (instr.Unary o k) calm = refl
-calm_tells before (instr.Extend k) calm = refl
-calm_tells before (instr.Jump p) calm = refl
-calm_tells before (instr.JumpIfZero p) calm = refl
-calm_tells before (instr.JumpIfNot p) calm = refl
-calm_tells before (instr.Tick u l) calm = absurd calm
-calm_tells before (instr.Call f n) calm = refl
-calm_tells before (instr.Library f n) calm = refl
-calm_tells before (instr.Mpi f n second) calm = refl
-calm_tells before instr.Return calm = refl
+calm_tells : (fs : List Function) (before : Place) (i : Instr) → IsCalm fs i → told_by before i ≡ before
+calm_tells fs before (instr.Push w) calm = refl
+calm_tells fs before instr.Pop calm = refl
+calm_tells fs before instr.Dup calm = refl
+calm_tells fs before (instr.Local w) calm = refl
+calm_tells fs before (instr.Global w) calm = refl
+calm_tells fs before (instr.Load w) calm = refl
+calm_tells fs before (instr.Store w) calm = refl
+calm_tells fs before (instr.Copy w) calm = refl
+calm_tells fs before (instr.Zero w) calm = refl
+calm_tells fs before (instr.Binary o k) calm = refl
+calm_tells fs before (instr.Unary o k) calm = refl
+calm_tells fs before (instr.Extend k) calm = refl
+calm_tells fs before (instr.Jump p) calm = refl
+calm_tells fs before (instr.JumpIfZero p) calm = refl
+calm_tells fs before (instr.JumpIfNot p) calm = refl
+calm_tells fs before (instr.Tick u l) calm = absurd calm
+calm_tells fs before (instr.Call f n) calm = refl
+calm_tells fs before (instr.Library f n) calm = refl
+calm_tells fs before (instr.Mpi f n second) calm = refl
+calm_tells fs before instr.Return calm = refl
 
-pub told_next : (code : Code) (place : ℕ) (i : Instr) (here : Here) → slice_get code.instrs place ≡ Some i → IsCalm i → Told code place here → Told code (place + 1) here
-told_next code place i here is calm told = line_behind code place i is ∙ calm_tells (place_of code place) i calm ∙ told
+pub told_next : (fs : List Function) (code : Code) (place : ℕ) (i : Instr) (here : Here) → slice_get code.instrs place ≡ Some i → IsCalm fs i → Told code place here → Told code (place + 1) here
+told_next fs code place i here is calm told = line_behind code place i is ∙ calm_tells fs (place_of code place) i calm ∙ told
 
-has_lies : (code : Code) (here : Here) (place : ℕ) (is : List Instr) → HasAt (Stands code) place is → AreCalm is → Told code place here → HasAt (Lies code here) place is
-has_lies code here place [] h calm told = tt
-has_lies code here place (i ∷ is) h calm told =
-    ((h.0, told, calm.0), has_lies code here (place + 1) is h.1 calm.1 (told_next code place i here h.0 calm.0 told))
+has_lies : (fs : List Function) (code : Code) (here : Here) (place : ℕ) (is : List Instr) → HasAt (Stands code) place is → AreCalm fs is → Told code place here → HasAt (Lies fs code here) place is
+has_lies fs code here place [] h calm told = tt
+has_lies fs code here place (i ∷ is) h calm told =
+    ((h.0, told, calm.0), has_lies fs code here (place + 1) is h.1 calm.1 (told_next fs code place i here h.0 calm.0 told))
 
-pub told_behind : (code : Code) (here : Here) (place : ℕ) (is : List Instr) → HasAt (Stands code) place is → AreCalm is → Told code place here → Told code (place + length is) here
-told_behind code here place [] h calm told = let e : place ≡ place + 0 = omega arith in subst (λ p. Told code p here) e told
-told_behind code here place (i ∷ is) h calm told =
+pub told_behind : (fs : List Function) (code : Code) (here : Here) (place : ℕ) (is : List Instr) → HasAt (Stands code) place is → AreCalm fs is → Told code place here → Told code (place + length is) here
+told_behind fs code here place [] h calm told = let e : place ≡ place + 0 = omega arith in subst (λ p. Told code p here) e told
+told_behind fs code here place (i ∷ is) h calm told =
     let e : place + 1 + length is ≡ place + length (i ∷ is) = omega arith in
-    subst (λ p. Told code p here) e (told_behind code here (place + 1) is h.1 calm.1 (told_next code place i here h.0 calm.0 told))
+    subst (λ p. Told code p here) e (told_behind fs code here (place + 1) is h.1 calm.1 (told_next fs code place i here h.0 calm.0 told))
 
 -- a calm part lies where it stands, behind a tick point of this line
-pub lies : (code : Code) (here : Here) (place : ℕ) (part : Part) (after : ℕ) → AreCalm (part place) → Told code place here
-    → Spans (Stands code) place part after → Spans (Lies code here) place part after
-lies code here place part after calm told s = record {
-  instrs = has_lies code here place (part place) s.instrs calm told;
+pub lies : (fs : List Function) (code : Code) (here : Here) (place : ℕ) (part : Part) (after : ℕ) → AreCalm fs (part place) → Told code place here
+    → Spans (Stands code) place part after → Spans (Lies fs code here) place part after
+lies fs code here place part after calm told s = record {
+  instrs = has_lies fs code here place (part place) s.instrs calm told;
   after_is = s.after_is;
 }

@@ -16,7 +16,10 @@ use Rattle.c_types.specs.Need.{in_arguments, in_call, operand_step, step_step, b
 use Rattle.c_model.specs.Outcome.{Rest, Here}
 use Rattle.c_model.specs.Run.{Calling, Surroundings, Value, in_order_of, operand_value, step_value, steps_value, value_step, value}
 use Rattle.codegen.specs.Layout.{Part, in_order, operand_part, step_part, expr_step, expr_part, operand_code, step_code}
-use Rattle.codegen.proofs.Running.{Standing, Does, onto, from_place}
+use Rattle.c_types.specs.declared.program.Function.{Function}
+use Rattle.codegen.specs.Covered.{has_body}
+use Rattle.std.specs.Prelude.{slice_get, Some}
+use Rattle.codegen.proofs.Running.{Standing, Does, Told, onto, from_place}
 use Rattle.codegen.proofs.Calling.{does_library, does_mpi}
 use Rattle.codegen.proofs.Spanning.{Spans, Lies, spans_none, spans_one, spans_then, spans_first}
 use Rattle.codegen.proofs.Stepping.{Values, Steps, values_number, values_local, values_object, steps_load, steps_convert, steps_unary, steps_not, steps_member, steps_binary, steps_greater, steps_at_least, steps_offset, steps_difference, steps_and, steps_or, steps_conditional, steps_comma, steps_assign, steps_copy, steps_update, steps_advance, steps_count}
@@ -97,7 +100,14 @@ args_fit base n le = grind arith
 some_call : (n : ℕ) → 1 ≤ max 1 n
 some_call n = grind arith
 
-module _ (code : Code) (s : Standing) (calling : Calling) (object : ℕ → ℕ) (unit line : ℕ) where
+-- Calls of functions with bodies do what calling does.
+abbrev pub DoesCalls : List Function → Code → Standing → Calling → Type 0
+DoesCalls fs code s calling =
+    (number : ℕ) (words : List ℕ) (place : ℕ) (stack : List ℕ) (most : ℕ) (here : Here) (next : ℕ → Rest) → has_body fs number ≡ true
+    → slice_get code.instrs place ≡ Some (instr.Call number (length words)) → Told code place here → length stack < operand_limit
+    → ((x : ℕ) → Does code s (place + 1) (x ∷ stack) most (next x)) → Does code s place (onto words stack) most (calling number words here next)
+
+module _ (fs : List Function) (code : Code) (s : Standing) (calling : Calling) (calls : DoesCalls fs code s calling) (object : ℕ → ℕ) (unit line : ℕ) where
   abbrev here_of : Here
   here_of = here_in s unit line
 
@@ -105,13 +115,13 @@ module _ (code : Code) (s : Standing) (calling : Calling) (object : ℕ → ℕ)
   around_of = around_with calling object
 
   abbrev HasOperand : Operand → Type 0
-  HasOperand o = Values code s here_of (operand_code object o) (need_first o) (operand_of o around_of here_of)
+  HasOperand o = Values fs code s here_of (operand_code object o) (need_first o) (operand_of o around_of here_of)
 
   abbrev HasStep : Step → Type 0
-  HasStep t = Steps code s here_of (step_code object t) (need_behind t) (λ x. step_of t x around_of here_of)
+  HasStep t = Steps fs code s here_of (step_code object t) (need_behind t) (λ x. step_of t x around_of here_of)
 
   abbrev HasValue : Expr → Type 0
-  HasValue e = Values code s here_of (expr_part object e) (need_of e) (value e around_of here_of)
+  HasValue e = Values fs code s here_of (expr_part object e) (need_of e) (value e around_of here_of)
 
   abbrev Known : Type 0
   Known = (e : Expr) × HasValue e
@@ -119,13 +129,13 @@ module _ (code : Code) (s : Standing) (calling : Calling) (object : ℕ → ℕ)
   -- arguments, where so many operands of the call are pending already
   over_args : (args : List Known) (base before place after : ℕ) (stack : List ℕ) (most : ℕ) (next : List ℕ → Rest) → length stack ≡ base + before
       → base + in_arguments before (map need_of (map (λ p. p.0) args)) ≤ operand_limit
-      → Spans (Lies code here_of) place (in_order (map (expr_part object) (map (λ p. p.0) args))) after
+      → Spans (Lies fs code here_of) place (in_order (map (expr_part object) (map (λ p. p.0) args))) after
       → ((words : List ℕ) → length words ≡ length args → Does code s after (onto words stack) most (next words))
       → Does code s place stack most (in_order_of (map value (map (λ p. p.0) args)) around_of here_of next)
   over_args [] base before place after stack most next pending fits sp d =
-      from_place code s _ _ _ _ _ (spans_none (Lies code here_of) place after sp) (d [] refl)
+      from_place code s _ _ _ _ _ (spans_none (Lies fs code here_of) place after sp) (d [] refl)
   over_args (a ∷ args) base before place after stack most next pending fits sp d =
-      let parts = spans_then (Lies code here_of) place after (expr_part object a.0) _ sp in
+      let parts = spans_then (Lies fs code here_of) place after (expr_part object a.0) _ sp in
       let m = in_arguments (before + 1) (map need_of (map (λ p. p.0) args)) in
       let first = first_fits base before (need_of a.0) m fits in
       a.1.by place parts.0 stack most _ (omega (arith, first, pending)) parts.1
@@ -136,7 +146,7 @@ module _ (code : Code) (s : Standing) (calling : Calling) (object : ℕ → ℕ)
   -- the same with no operand pending
   over_all : (args : List Known) (place after : ℕ) (stack : List ℕ) (most : ℕ) (next : List ℕ → Rest)
       → length stack + in_call (map need_of (map (λ p. p.0) args)) ≤ operand_limit
-      → Spans (Lies code here_of) place (in_order (map (expr_part object) (map (λ p. p.0) args))) after
+      → Spans (Lies fs code here_of) place (in_order (map (expr_part object) (map (λ p. p.0) args))) after
       → ((words : List ℕ) → length words ≡ length args → Does code s after (onto words stack) most (next words))
       → Does code s place stack most (in_order_of (map value (map (λ p. p.0) args)) around_of here_of next)
   over_all args place after stack most next fits sp d =
@@ -164,17 +174,17 @@ module _ (code : Code) (s : Standing) (calling : Calling) (object : ℕ → ℕ)
   operand_valued x = operand_value (map-Operand Operand Step Expr Value (ℕ → Value) Value operand_of step_of value x)
 
   abbrev ValuesOperand : Operand-F Operand Step Expr → Type 0
-  ValuesOperand x = Values code s here_of (operand_laid x) (operand_needed x) (operand_valued x around_of here_of)
+  ValuesOperand x = Values fs code s here_of (operand_laid x) (operand_needed x) (operand_valued x around_of here_of)
 
   has_library : (call : LibCall) (args : List Known) → ValuesOperand (Operand-F.Library call (map (λ p. p.0) args))
   has_library call args = record {
     some = some_call (in_arguments 0 (map need_of (map (λ p. p.0) args)));
     by = λ place after stack most next fits sp d.
         let n = length (map (expr_part object) (map (λ p. p.0) args)) in
-        let parts = spans_then (Lies code here_of) place after (in_order (map (expr_part object) (map (λ p. p.0) args))) _ sp in
-        let last = spans_one (Lies code here_of) parts.0 after (instr.Library call n) parts.2 in
+        let parts = spans_then (Lies fs code here_of) place after (in_order (map (expr_part object) (map (λ p. p.0) args))) _ sp in
+        let last = spans_one (Lies fs code here_of) parts.0 after (instr.Library call n) parts.2 in
         over_all args place parts.0 stack most _ fits parts.1 (λ words l.
-        let lies = subst (λ m. Lies code here_of parts.0 (instr.Library call m)) (length_parts args ∙ sym l) last.0 in
+        let lies = subst (λ m. Lies fs code here_of parts.0 (instr.Library call m)) (length_parts args ∙ sym l) last.0 in
         does_library code s call words parts.0 stack most here_of next lies.0 lies.1
         (call_fits (length stack) (in_arguments 0 (map need_of (map (λ p. p.0) args))) fits)
         (λ x. from_place code s _ _ _ _ _ last.1 (d x)));
@@ -185,44 +195,47 @@ module _ (code : Code) (s : Standing) (calling : Calling) (object : ℕ → ℕ)
     some = some_call (in_arguments 0 (map need_of (map (λ p. p.0) args)));
     by = λ place after stack most next fits sp d.
         let n = length (map (expr_part object) (map (λ p. p.0) args)) in
-        let parts = spans_then (Lies code here_of) place after (in_order (map (expr_part object) (map (λ p. p.0) args))) _ sp in
-        let first = spans_first (Lies code here_of) parts.0 after (instr.Mpi call n false) _ parts.2 in
-        let last = spans_one (Lies code here_of) (parts.0 + 1) after (instr.Mpi call n true) first.1 in
+        let parts = spans_then (Lies fs code here_of) place after (in_order (map (expr_part object) (map (λ p. p.0) args))) _ sp in
+        let first = spans_first (Lies fs code here_of) parts.0 after (instr.Mpi call n false) _ parts.2 in
+        let last = spans_one (Lies fs code here_of) (parts.0 + 1) after (instr.Mpi call n true) first.1 in
         let e : after ≡ parts.0 + 2 = omega (arith, last.1) in
         over_all args place parts.0 stack most _ fits parts.1 (λ words l.
-        let one_lies = subst (λ m. Lies code here_of parts.0 (instr.Mpi call m false)) (length_parts args ∙ sym l) first.0 in
-        let two_lies = subst (λ m. Lies code here_of (parts.0 + 1) (instr.Mpi call m true)) (length_parts args ∙ sym l) last.0 in
+        let one_lies = subst (λ m. Lies fs code here_of parts.0 (instr.Mpi call m false)) (length_parts args ∙ sym l) first.0 in
+        let two_lies = subst (λ m. Lies fs code here_of (parts.0 + 1) (instr.Mpi call m true)) (length_parts args ∙ sym l) last.0 in
         does_mpi code s call words parts.0 stack most here_of next one_lies.0 one_lies.1 two_lies.0 two_lies.1
         (call_fits (length stack) (in_arguments 0 (map need_of (map (λ p. p.0) args))) fits)
         (λ x. from_place code s _ _ _ _ _ e (d x)));
   }
 
-  -- code that lies there calls no function
-  has_no_call : (function : ℕ) (args : List Known) → ValuesOperand (Operand-F.Call function (map (λ p. p.0) args))
-  has_no_call function args = record {
+  has_call : (function : ℕ) (args : List Known) → ValuesOperand (Operand-F.Call function (map (λ p. p.0) args))
+  has_call function args = record {
     some = some_call (in_arguments 0 (map need_of (map (λ p. p.0) args)));
     by = λ place after stack most next fits sp d.
         let n = length (map (expr_part object) (map (λ p. p.0) args)) in
-        let parts = spans_then (Lies code here_of) place after (in_order (map (expr_part object) (map (λ p. p.0) args))) _ sp in
-        let last = spans_one (Lies code here_of) parts.0 after (instr.Call function n) parts.2 in
-        absurd last.0.2;
+        let parts = spans_then (Lies fs code here_of) place after (in_order (map (expr_part object) (map (λ p. p.0) args))) _ sp in
+        let last = spans_one (Lies fs code here_of) parts.0 after (instr.Call function n) parts.2 in
+        over_all args place parts.0 stack most _ fits parts.1 (λ words l.
+        let lies = subst (λ m. Lies fs code here_of parts.0 (instr.Call function m)) (length_parts args ∙ sym l) last.0 in
+        calls function words parts.0 stack most here_of next lies.2 lies.0 lies.1
+        (call_fits (length stack) (in_arguments 0 (map need_of (map (λ p. p.0) args))) fits)
+        (λ x. from_place code s _ _ _ _ _ last.1 (d x)));
   }
 
   operand_has : (y : OpenOperand) → ValuesOperand (closed_operand y)
-  operand_has (Operand-F.Number word) = values_number code s here_of word
-  operand_has (Operand-F.Local offset) = values_local code s here_of offset
-  operand_has (Operand-F.Object number) = values_object code s here_of (object number)
-  operand_has (Operand-F.Call function args) = has_no_call function args
+  operand_has (Operand-F.Number word) = values_number fs code s here_of word
+  operand_has (Operand-F.Local offset) = values_local fs code s here_of offset
+  operand_has (Operand-F.Object number) = values_object fs code s here_of (object number)
+  operand_has (Operand-F.Call function args) = has_call function args
   operand_has (Operand-F.Library call args) = has_library call args
   operand_has (Operand-F.Mpi call args) = has_mpi call args
 
   -- what is said of a part, a need and a value is said of what equals them
   same_values : (part part' : Part) (need need' : ℕ) (v v' : Value) → part ≡ part' → need ≡ need' → v ≡ v'
-      → Values code s here_of part' need' (v' around_of here_of) → Values code s here_of part need (v around_of here_of)
+      → Values fs code s here_of part' need' (v' around_of here_of) → Values fs code s here_of part need (v around_of here_of)
   same_values part part' need need' v v' e f g has =
-      subst (λ p. Values code s here_of p need (v around_of here_of)) (sym e)
-      (subst (λ n. Values code s here_of part' n (v around_of here_of)) (sym f)
-      (subst (λ w. Values code s here_of part' need' (w around_of here_of)) (sym g) has))
+      subst (λ p. Values fs code s here_of p need (v around_of here_of)) (sym e)
+      (subst (λ n. Values fs code s here_of part' n (v around_of here_of)) (sym f)
+      (subst (λ w. Values fs code s here_of part' need' (w around_of here_of)) (sym g) has))
 
   operand_holds : (y : OpenOperand) → HasOperand (roll-Operand (closed_operand y))
   operand_holds y =
@@ -246,33 +259,33 @@ module _ (code : Code) (s : Standing) (calling : Calling) (object : ℕ → ℕ)
   abbrev step_valued : Step-F Operand Step Expr → ℕ → Value
   step_valued x = step_value (map-Step Operand Step Expr Value (ℕ → Value) Value operand_of step_of value x)
 
-  step_has : (y : OpenStep) → Steps code s here_of (step_laid (closed_step y)) (step_needed (closed_step y)) (λ x. step_valued (closed_step y) x around_of here_of)
-  step_has (Step-F.Load k) = steps_load code s here_of k
-  step_has (Step-F.Convert from to) = steps_convert code s here_of from to
-  step_has (Step-F.Unary o k) = steps_unary code s here_of o k
-  step_has Step-F.Not = steps_not code s here_of
-  step_has (Step-F.Member offset) = steps_member code s here_of offset
-  step_has (Step-F.Binary o k b) = steps_binary code s here_of o k _ _ _ b.1
-  step_has (Step-F.Greater k b) = steps_greater code s here_of k _ _ _ b.1
-  step_has (Step-F.AtLeast k b) = steps_at_least code s here_of k _ _ _ b.1
-  step_has (Step-F.Offset by scale b) = steps_offset code s here_of by scale _ _ _ b.1
-  step_has (Step-F.Difference size b) = steps_difference code s here_of size _ _ _ b.1
-  step_has (Step-F.And b) = steps_and code s here_of _ _ _ b.1
-  step_has (Step-F.Or b) = steps_or code s here_of _ _ _ b.1
-  step_has (Step-F.Conditional b c) = steps_conditional code s here_of _ _ _ _ _ _ b.1 c.1
-  step_has (Step-F.Comma b) = steps_comma code s here_of _ _ _ b.1
-  step_has (Step-F.Assign k b) = steps_assign code s here_of k _ _ _ b.1
-  step_has (Step-F.Copy size b) = steps_copy code s here_of size _ _ _ b.1
-  step_has (Step-F.Update o k at b) = steps_update code s here_of o k at _ _ _ b.1
-  step_has (Step-F.Advance direction scale b) = steps_advance code s here_of direction scale _ _ _ b.1
-  step_has (Step-F.Count c direction given) = steps_count code s here_of c direction given
+  step_has : (y : OpenStep) → Steps fs code s here_of (step_laid (closed_step y)) (step_needed (closed_step y)) (λ x. step_valued (closed_step y) x around_of here_of)
+  step_has (Step-F.Load k) = steps_load fs code s here_of k
+  step_has (Step-F.Convert from to) = steps_convert fs code s here_of from to
+  step_has (Step-F.Unary o k) = steps_unary fs code s here_of o k
+  step_has Step-F.Not = steps_not fs code s here_of
+  step_has (Step-F.Member offset) = steps_member fs code s here_of offset
+  step_has (Step-F.Binary o k b) = steps_binary fs code s here_of o k _ _ _ b.1
+  step_has (Step-F.Greater k b) = steps_greater fs code s here_of k _ _ _ b.1
+  step_has (Step-F.AtLeast k b) = steps_at_least fs code s here_of k _ _ _ b.1
+  step_has (Step-F.Offset by scale b) = steps_offset fs code s here_of by scale _ _ _ b.1
+  step_has (Step-F.Difference size b) = steps_difference fs code s here_of size _ _ _ b.1
+  step_has (Step-F.And b) = steps_and fs code s here_of _ _ _ b.1
+  step_has (Step-F.Or b) = steps_or fs code s here_of _ _ _ b.1
+  step_has (Step-F.Conditional b c) = steps_conditional fs code s here_of _ _ _ _ _ _ b.1 c.1
+  step_has (Step-F.Comma b) = steps_comma fs code s here_of _ _ _ b.1
+  step_has (Step-F.Assign k b) = steps_assign fs code s here_of k _ _ _ b.1
+  step_has (Step-F.Copy size b) = steps_copy fs code s here_of size _ _ _ b.1
+  step_has (Step-F.Update o k at b) = steps_update fs code s here_of o k at _ _ _ b.1
+  step_has (Step-F.Advance direction scale b) = steps_advance fs code s here_of direction scale _ _ _ b.1
+  step_has (Step-F.Count c direction given) = steps_count fs code s here_of c direction given
 
   same_steps : (part part' : Part) (need need' : ℕ → ℕ) (v v' : ℕ → Value) → part ≡ part' → need ≡ need' → v ≡ v'
-      → Steps code s here_of part' need' (λ x. v' x around_of here_of) → Steps code s here_of part need (λ x. v x around_of here_of)
+      → Steps fs code s here_of part' need' (λ x. v' x around_of here_of) → Steps fs code s here_of part need (λ x. v x around_of here_of)
   same_steps part part' need need' v v' e f g has =
-      subst (λ p. Steps code s here_of p need (λ x. v x around_of here_of)) (sym e)
-      (subst (λ n. Steps code s here_of part' n (λ x. v x around_of here_of)) (sym f)
-      (subst (λ w. Steps code s here_of part' need' (λ x. w x around_of here_of)) (sym g) has))
+      subst (λ p. Steps fs code s here_of p need (λ x. v x around_of here_of)) (sym e)
+      (subst (λ n. Steps fs code s here_of part' n (λ x. v x around_of here_of)) (sym f)
+      (subst (λ w. Steps fs code s here_of part' need' (λ x. w x around_of here_of)) (sym g) has))
 
   step_holds : (y : OpenStep) → HasStep (roll-Step (closed_step y))
   step_holds y =
@@ -293,13 +306,13 @@ module _ (code : Code) (s : Standing) (calling : Calling) (object : ℕ → ℕ)
 
   over_steps : (steps : List Stepped) (a place after x : ℕ) (stack : List ℕ) (most : ℕ) (next : ℕ → Rest) → 1 ≤ a
       → length stack + behind_all a (map need_behind (map (λ p. p.0) steps)) ≤ operand_limit
-      → Spans (Lies code here_of) place (in_order (map (step_code object) (map (λ p. p.0) steps))) after
+      → Spans (Lies fs code here_of) place (in_order (map (step_code object) (map (λ p. p.0) steps))) after
       → ((y : ℕ) → Does code s after (y ∷ stack) most (next y))
       → Does code s place (x ∷ stack) most (steps_value (map step_of (map (λ p. p.0) steps)) x around_of here_of next)
   over_steps [] a place after x stack most next some fits sp d =
-      from_place code s _ _ _ _ _ (spans_none (Lies code here_of) place after sp) (d x)
+      from_place code s _ _ _ _ _ (spans_none (Lies fs code here_of) place after sp) (d x)
   over_steps (t ∷ steps) a place after x stack most next some fits sp d =
-      let parts = spans_then (Lies code here_of) place after (step_code object t.0) _ sp in
+      let parts = spans_then (Lies fs code here_of) place after (step_code object t.0) _ sp in
       let more = t.1.grows a in
       let rest = all_grow steps (need_behind t.0 a) in
       t.1.by place parts.0 x a stack most _ some (omega (arith, fits, rest)) parts.1
@@ -313,7 +326,7 @@ module _ (code : Code) (s : Standing) (calling : Calling) (object : ℕ → ℕ)
 
   abbrev ValuesExpr : Expr-F Operand Step Expr → Type 0
   ValuesExpr x =
-      Values code s here_of (expr_step (map-Expr Operand Step Expr Part Part Part (operand_code object) (step_code object) (expr_part object) x))
+      Values fs code s here_of (expr_step (map-Expr Operand Step Expr Part Part Part (operand_code object) (step_code object) (expr_part object) x))
       (need_step (map-Expr Operand Step Expr ℕ (ℕ → ℕ) ℕ need_first need_behind need_of x))
       (value_step (map-Expr Operand Step Expr Value (ℕ → Value) Value operand_of step_of value x) around_of here_of)
 
@@ -324,7 +337,7 @@ module _ (code : Code) (s : Standing) (calling : Calling) (object : ℕ → ℕ)
       record {
         some = omega (arith, grown, has);
         by = λ place after stack most next fits sp d.
-            let parts = spans_then (Lies code here_of) place after (operand_code object y.first.0) _ sp in
+            let parts = spans_then (Lies fs code here_of) place after (operand_code object y.first.0) _ sp in
             y.first.1.by place parts.0 stack most _ (omega (arith, fits, grown)) parts.1
             (λ x. over_steps y.steps (need_first y.first.0) parts.0 after x stack most next has fits parts.2 d);
       }

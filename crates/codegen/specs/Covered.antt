@@ -1,5 +1,5 @@
--- The programs whose code is shown to mean them: `main` calls no function of the program, and has no `switch`.
-use Rattle.std.specs.Prelude.{◌≡◌, ◌≤◌, ◌&&◌, Bool, true, false, List, [], ◌∷◌, length, map, Option, None, Some, slice_get}
+-- The programs whose code is shown to mean them: each call is of a function with a body, and there is no `switch`.
+use Rattle.std.specs.Prelude.{ℕ, is_some, ◌≡◌, ◌≤◌, ◌&&◌, Bool, true, false, List, [], ◌∷◌, length, map, Option, None, Some, slice_get}
 use Rattle.c_types.specs.declared.expression.Operand.TheOpen.{Operand-F, Step-F, Expr-F}
 use Rattle.c_types.specs.declared.expression.Operand.{Operand, fold-Operand}
 use Rattle.c_types.specs.declared.expression.Step.{Step, fold-Step}
@@ -19,13 +19,21 @@ abbrev pub all_true : List Bool → Bool
 all_true [] = true
 all_true (b ∷ bs) = b && all_true bs
 
-abbrev pub operand_covered : Operand-F Bool Bool Bool → Bool
-operand_covered (Operand-F.Number word) = true
-operand_covered (Operand-F.Local offset) = true
-operand_covered (Operand-F.Object number) = true
-operand_covered (Operand-F.Call function bs) = false
-operand_covered (Operand-F.Library call bs) = all_true bs
-operand_covered (Operand-F.Mpi call bs) = all_true bs
+-- whether a function of that number has a body
+abbrev pub is_defined : Option Function → Bool
+is_defined None = false
+is_defined (Some function) = is_some function.body
+
+abbrev pub has_body : List Function → ℕ → Bool
+has_body fs number = is_defined (slice_get fs number)
+
+abbrev pub operand_covered : List Function → Operand-F Bool Bool Bool → Bool
+operand_covered fs (Operand-F.Number word) = true
+operand_covered fs (Operand-F.Local offset) = true
+operand_covered fs (Operand-F.Object number) = true
+operand_covered fs (Operand-F.Call function bs) = has_body fs function && all_true bs
+operand_covered fs (Operand-F.Library call bs) = all_true bs
+operand_covered fs (Operand-F.Mpi call bs) = all_true bs
 
 abbrev pub step_covered : Step-F Bool Bool Bool → Bool
 step_covered (Step-F.Load kind) = true
@@ -52,27 +60,27 @@ abbrev pub expr_covered_step : Expr-F Bool Bool Bool → Bool
 expr_covered_step e = e.first && all_true e.steps
 
 -- the same of operands and steps
-unfoldable pub operand_is_covered : Operand → Bool
-operand_is_covered = fold-Operand Bool Bool Bool operand_covered step_covered expr_covered_step
+unfoldable pub operand_is_covered : List Function → Operand → Bool
+operand_is_covered fs = fold-Operand Bool Bool Bool (operand_covered fs) step_covered expr_covered_step
 
-unfoldable pub step_is_covered : Step → Bool
-step_is_covered = fold-Step Bool Bool Bool operand_covered step_covered expr_covered_step
+unfoldable pub step_is_covered : List Function → Step → Bool
+step_is_covered fs = fold-Step Bool Bool Bool (operand_covered fs) step_covered expr_covered_step
 
--- whether an expression calls no function of the program
-unfoldable pub expr_covered : Expr → Bool
-expr_covered = fold-Expr Bool Bool Bool operand_covered step_covered expr_covered_step
+-- whether an expression calls functions with bodies alone
+unfoldable pub expr_covered : List Function → Expr → Bool
+expr_covered fs = fold-Expr Bool Bool Bool (operand_covered fs) step_covered expr_covered_step
 
-abbrev pub covered_if : Option FullExpr → Bool
-covered_if None = true
-covered_if (Some e) = expr_covered e.expr
+abbrev pub covered_if : List Function → Option FullExpr → Bool
+covered_if fs None = true
+covered_if fs (Some e) = expr_covered fs e.expr
 
-abbrev pub stores_covered : List Store → Bool
-stores_covered [] = true
-stores_covered (s ∷ ss) = expr_covered s.value.expr && stores_covered ss
+abbrev pub stores_covered : List Function → List Store → Bool
+stores_covered fs [] = true
+stores_covered fs (s ∷ ss) = expr_covered fs s.value.expr && stores_covered fs ss
 
-abbrev pub all_declared_covered : List Declared → Bool
-all_declared_covered [] = true
-all_declared_covered (d ∷ ds) = stores_covered d.stores && all_declared_covered ds
+abbrev pub all_declared_covered : List Function → List Declared → Bool
+all_declared_covered fs [] = true
+all_declared_covered fs (d ∷ ds) = stores_covered fs d.stores && all_declared_covered fs ds
 
 -- a `for` begins with declarators or with an expression
 abbrev pub begins_once : List Declared → Option FullExpr → Bool
@@ -84,37 +92,42 @@ abbrev pub true_if : Option Bool → Bool
 true_if None = true
 true_if (Some b) = b
 
-abbrev pub stmt_covered_step : Stmt-F Bool → Bool
-stmt_covered_step (Stmt-F.Empty line) = true
-stmt_covered_step (Stmt-F.Express line e) = expr_covered e.expr
-stmt_covered_step (Stmt-F.Declare d) = stores_covered d.stores
-stmt_covered_step (Stmt-F.Block bs) = all_true bs
-stmt_covered_step (Stmt-F.If line e b otherwise) = expr_covered e.expr && (b && true_if otherwise)
-stmt_covered_step (Stmt-F.While line e b) = expr_covered e.expr && b
-stmt_covered_step (Stmt-F.Do line b e) = expr_covered e.expr && b
-stmt_covered_step (Stmt-F.For line ds start test step b) =
-    begins_once ds start && (all_declared_covered ds && (covered_if start && (covered_if test && (covered_if step && b))))
-stmt_covered_step (Stmt-F.Switch line e cases default b) = false
-stmt_covered_step (Stmt-F.Labelled label b) = b
-stmt_covered_step (Stmt-F.Break line) = true
-stmt_covered_step (Stmt-F.Continue line) = true
-stmt_covered_step (Stmt-F.Return line e) = covered_if e
+abbrev pub stmt_covered_step : List Function → Stmt-F Bool → Bool
+stmt_covered_step fs (Stmt-F.Empty line) = true
+stmt_covered_step fs (Stmt-F.Express line e) = expr_covered fs e.expr
+stmt_covered_step fs (Stmt-F.Declare d) = stores_covered fs d.stores
+stmt_covered_step fs (Stmt-F.Block bs) = all_true bs
+stmt_covered_step fs (Stmt-F.If line e b otherwise) = expr_covered fs e.expr && (b && true_if otherwise)
+stmt_covered_step fs (Stmt-F.While line e b) = expr_covered fs e.expr && b
+stmt_covered_step fs (Stmt-F.Do line b e) = expr_covered fs e.expr && b
+stmt_covered_step fs (Stmt-F.For line ds start test step b) =
+    begins_once ds start && (all_declared_covered fs ds && (covered_if fs start && (covered_if fs test && (covered_if fs step && b))))
+stmt_covered_step fs (Stmt-F.Switch line e cases default b) = false
+stmt_covered_step fs (Stmt-F.Labelled label b) = b
+stmt_covered_step fs (Stmt-F.Break line) = true
+stmt_covered_step fs (Stmt-F.Continue line) = true
+stmt_covered_step fs (Stmt-F.Return line e) = covered_if fs e
 
-unfoldable pub stmt_covered : Stmt → Bool
-stmt_covered = fold-Stmt Bool stmt_covered_step
+unfoldable pub stmt_covered : List Function → Stmt → Bool
+stmt_covered fs = fold-Stmt Bool (stmt_covered_step fs)
 
--- a body with at most the two parameters that `main` may have, whose statements are covered
-pub record IsCoveredBody (o : Option Body) : Type 0 where
+-- whether all statements of a function are covered, where it has a body
+abbrev pub body_covered : List Function → Option Body → Bool
+body_covered fs None = true
+body_covered fs (Some body) = all_true (map (stmt_covered fs) body.stmts)
+
+abbrev pub function_covered : List Function → Function → Bool
+function_covered fs function = body_covered fs function.body
+
+-- a body with at most the two parameters that `main` may have
+pub record IsMainBody (o : Option Body) : Type 0 where
   pub body : Body
   pub body_is : o ≡ Some body
   pub few : length body.parameters ≤ 2
-  pub covered : all_true (map stmt_covered body.stmts) ≡ true
 
--- `main` is defined, with at most the two parameters that it may have, and its statements are covered.
+-- `main` is defined, with at most the two parameters that it may have, and the statements of all functions are covered.
 pub record IsCovered (program : Program) (main : Main) : Type 0 where
   pub function : Function
   pub function_is : slice_get program.functions main.function ≡ Some function
-  pub body : Body
-  pub body_is : function.body ≡ Some body
-  pub few : length body.parameters ≤ 2
-  pub covered : all_true (map stmt_covered body.stmts) ≡ true
+  pub main_body : IsMainBody function.body
+  pub covered : all_true (map (function_covered program.functions) program.functions) ≡ true

@@ -3,7 +3,7 @@
 ghost use Rattle.codegen.specs.Laws.{LaidOutCodeBegins, LaidOutCodeIsBounded, LaidOutCodeMeans};
 ghost use Rattle.codegen.specs.Answers.{RefusalsAreAnswered, SomeAnswerIsThere};
 
-/// A law: code that is laid out as a program's means the program, where `main` calls no function of the program and has no
+/// A law: code that is laid out as a program's means the program, where functions with bodies alone are called, there is no
 /// `switch`, and no more values are pending anywhere than may be.
 pub fn laid_out_code_means_its_program()
     ensures { LaidOutCodeMeans }
