@@ -1,5 +1,5 @@
 -- Reading from the first word on finds a run just where the words ask for it.
-use Rattle.std.proofs.Common.{◌≡◌, ℕ, inl, inr, true, false, List, [], ◌∷◌, Option, None, Some, refl, sym, ap, subst, ◌∙◌, arith}
+use Rattle.std.proofs.Common.{◌≡◌, ◌==◌, length, not, Bool, ℕ, inl, inr, true, false, List, [], ◌∷◌, Option, None, Some, refl, sym, ap, subst, ◌∙◌, arith}
 use Rattle.std.proofs.lemmas.Bool.{cases_Bool, and_parts, and_from, and_left, leb-true, le-leb, ne_eqb, false≢true, cond-true, cond-false}
 use Rattle.std.proofs.lemmas.Bool.Decides.{nat_tests}
 use Rattle.std.proofs.lemmas.Option.{option_and_then_some, cond_some, same_Some, none-some}
@@ -11,7 +11,7 @@ use Rattle.std.specs.Global.{Global}
 use Rattle.std.specs.List.{flat_map, list_all, AllByRecursion}
 use Rattle.std.specs.Str.{bytes_eq}
 use Rattle.run_words.specs.Asks.{IsJournalOf}
-use Rattle.run_words.specs.Words.{Part, words_of, IsPlain, IsNumber, IsWellFormed, is_digit, number_of, sources_in, ranks_in, ticks_in, journals_in, Chooses, Asked, AskForRun}
+use Rattle.run_words.specs.Words.{Part, words_of, IsPlain, IsNumber, IsWellFormed, is_digit, number_of, sources_in, ranks_in, ticks_in, journals_in, Chooses, Asked, AskForRun, AskForCode}
 use Rattle.run_words.specs.Words.Part.{Source, Ranks, Ticks, Journal}
 use Rattle.run_words.specs.steps.Reading.{Said, nothing_said, is_number, is_plain, is_ranks_value, is_ticks_value, with_file, with_ranks, with_ticks, with_journal, said_with, asked_by, asked_of}
 
@@ -403,3 +403,21 @@ IfNone-from (Some x) P p = tt
 pub None-from_is_some : {X : Type 0} (o : Option X) → is_some o ≡ false → o ≡ None
 None-from_is_some None e = refl
 None-from_is_some (Some x) e = absurd (false≢true (sym e))
+
+not-false : (b : Bool) → false ≡ not b → b ≡ true
+not-false true e = refl
+not-false false e = cc
+
+pub same-word : (a b : List ℕ) → false ≡ not (bytes_eq a b) → a ≡ b
+same-word a b e = (bytes_eq-Decides a b).0 (not-false (bytes_eq a b) e)
+
+-- two words, the first of which is `code`
+pub asks-code : {S : Type 0} (f : S → List ℕ) (words rest more : List S) (first name : S) (file : List ℕ) → words ≡ first ∷ rest → rest ≡ name ∷ more
+    → f first ≡ codes "code" → true ≡ is_plain file → true ≡ (length more == 0) → file ≡ f name → AskForCode (map f words) file
+asks-code f words rest [] first name file words_is rest_is code plain none file_is = record {
+  spelled = ap (map f) (words_is ∙ ap (λ ws. first ∷ ws) rest_is) ∙ ap (λ w. w ∷ f name ∷ []) code ∙ ap (λ n. codes "code" ∷ n ∷ []) (sym file_is);
+  plain = IsPlain-from_test file (sym plain);
+}
+asks-code f words rest (m ∷ more) first name file words_is rest_is code plain none file_is =
+    let no : ⊥ = grind (arith, nat_tests) in
+    absurd no

@@ -95,3 +95,8 @@ pub record AskForRun (words : List (List ℕ)) (asked : Asked) : Type 0 where
   pub ranks : Chooses (ranks_in parts) number_of 1 asked.ranks
   pub ticks : Chooses (ticks_in parts) number_of 1000000 asked.ticks
   pub journal : Chooses (journals_in parts) Some None asked.journal
+
+-- The words ask for the listing of the code of this file.
+pub record AskForCode (words : List (List ℕ)) (file : List ℕ) : Type 0 where
+  pub spelled : words ≡ codes "code" ∷ file ∷ []
+  pub plain : IsPlain file

@@ -1,9 +1,9 @@
 //! What accepted words ask for.
 ghost use Rattle.std.specs.Prelude.{◌≡◌, ◌≤◌, None, Some, IfOk, IfSome, IfNone, IsErrOf};
-ghost use Rattle.run_words.specs.Words.{AskForRun};
+ghost use Rattle.run_words.specs.Words.{AskForRun, AskForCode};
 ghost use Rattle.run_words.specs.Asks.{AreAccepted, bytes_of_words, IsAskedBy, IsJournalOf};
 
-use crate::reading::run_of;
+use crate::reading::{is_plain, run_of};
 use std::alloc::{AllocError, Global};
 use thiserror::Error;
 
@@ -57,6 +57,25 @@ pub fn journal_name(words: &Vec<String>) -> Option<&str>
 {
     run_of(words)?.journal
 }
+
+/// The file of which accepted words want the listing, and `None` for other words. It takes no memory.
+pub fn code_name(words: &Vec<String>) -> Option<&str>
+    ensures some { IfSome result (λ name. AskForCode (bytes_of_words words.now) name.now) }
+    ensures none { IfNone result ((file : _) → AskForCode (bytes_of_words words.now) file → ⊥) }
+{
+    let (first, rest) = words.split_first()?;
+    let (name, more) = rest.split_first()?;
+    if first.as_str() != "code" || !is_plain(name) || !more.is_empty() {
+        return None;
+    }
+    Some(name)
+}
+
+/// A law: words ask for a run or for a listing, not for both, and for the listing of one file at most.
+pub fn one_command()
+    ensures apart { (words : _) (asked : _) (file : _) → AskForRun words asked → AskForCode words file → ⊥ }
+    ensures one { (words : _) (a b : _) → AskForCode words a → AskForCode words b → a ≡ b }
+{}
 
 /// A law: words ask for one run at most.
 pub fn one_meaning()

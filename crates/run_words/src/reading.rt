@@ -166,7 +166,7 @@ fn is_number(word: &str) -> bool
 }
 
 /// Whether a word may be a file's name: it isn't empty, and no dash begins it.
-fn is_plain(word: &str) -> bool
+pub fn is_plain(word: &str) -> bool
     ensures { result ≡ is_plain_lem word.now }
 {
     word.as_bytes().first().is_some_and(|b| *b != b'-')
