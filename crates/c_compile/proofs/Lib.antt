@@ -1,3 +1,4 @@
 pub mod TextLaws
 pub mod ProgramLaws
 pub mod KnownLaws
+pub mod OnceLaws

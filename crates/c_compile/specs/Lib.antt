@@ -3,3 +3,4 @@ pub mod Lines
 pub mod Known
 pub mod Texts
 pub mod Programs
+pub mod Once

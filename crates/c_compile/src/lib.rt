@@ -3,6 +3,7 @@
 
 ghost use Rattle.std.specs.Prelude.{◌≤◌, length, IfOk, IfErr};
 ghost use Rattle.c_compile.specs.Programs.{AreShort, IsCompiled, IsWhy};
+ghost use Rattle.c_compile.specs.Once.{AnswersAreOne};
 
 mod cause;
 mod compiled;
@@ -14,7 +15,10 @@ mod programs;
 mod texts;
 
 use am_base::Bytes;
+use c_grammar_laws::{one_refusal, one_unit};
+use c_types::refusal_is_one;
 pub use cause::Cause;
+use codegen::refusals_are_answered;
 pub use compiled::Compiled;
 pub use error::{CompileError, Refusal};
 pub use known::known_where_included;
@@ -39,4 +43,15 @@ pub fn compile(alloc: Global, files: &[Bytes]) -> Result<Compiled, CompileError>
         Ok(sources) => programs::compile_sources(alloc, sources.as_slice()),
         Err(error) => Err(error),
     }
+}
+
+/// A law: files are compiled in one way, or refused for one cause, in one file and at one line.
+pub fn answers_are_one()
+    ensures { AnswersAreOne }
+{
+    c_lex::one_answer();
+    one_unit();
+    one_refusal();
+    refusal_is_one();
+    refusals_are_answered();
 }
