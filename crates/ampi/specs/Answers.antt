@@ -1,12 +1,13 @@
 -- What each answer of the program means, and when it comes.
-use Rattle.std.specs.Prelude.{ℕ, ◌≡◌, ◌+◌, ◌≤◌, ◌==◌, if◌then◌else◌, List, [], ◌∷◌, ◌++◌, length, codes, ◌⊎◌}
-use Rattle.std.specs.Fmt.{decimal}
-use Rattle.am_io.specs.Contents.{Held, Loads}
+use Rattle.std.specs.Prelude.{ℕ, ◌≡◌, List, [], ◌∷◌, ◌++◌, codes, ◌⊎◌}
+use Rattle.am_io.specs.Contents.{Held}
 use Rattle.am_io.specs.Faults.{Rose}
-use Rattle.thin_model.specs.declared.tree.Program.{Program}
-use Rattle.run_words.specs.Words.{Asked, AskForRun}
-use Rattle.thin_model.specs.Need.{IsSimple}
-use Rattle.thin_compile.specs.Source.{IsSource, IsNotBuilt, IsTooComplexSource}
+use Rattle.run_words.specs.Words.{Asked, AskForRun, AskForCode}
+use Rattle.vm_code.specs.Listing.{listing_from}
+use Rattle.c_compile.specs.declared.compiled.Compiled.{Compiled}
+use Rattle.c_compile.specs.declared.error.Refusal.{Refusal}
+use Rattle.c_compile.specs.Causes.{cause_number}
+use Rattle.c_compile.specs.Programs.{IsCompiled}
 use Rattle.mpi_types.specs.declared.entries.Entry.{Entry}
 use Rattle.w_model.specs.declared.report.End.{End}
 use Rattle.w_model.specs.declared.report.End.TheVariants as end
@@ -15,16 +16,12 @@ use Rattle.w_model.specs.Cut.{released_lines}
 use Rattle.w_model.specs.Texts.{report_text, end_at}
 use Rattle.mpi_types.specs.Journal.{header_line, journal_text}
 use Rattle.w_model.specs.Whole.{IsMarkedDrain}
-use Rattle.thin_run.specs.Group.{setting}
-use Rattle.thin_run.specs.Told.{on_first}
+use Rattle.cluster.specs.Told.{on_first}
 use Rattle.ampi.specs.declared.status.Status.{Status}
 use Rattle.ampi.specs.declared.status.Status.TheVariants.{Done, Usage, ReadFault, TooLong, Source, Deadlock, OutOfTicks, Trapped, WriteFault, NoMemory}
 use Rattle.ampi.specs.Puts.{Piece, ToOut, ToJournal, out_of, journal_of, Puts, GotWhole, GotPart}
 use Rattle.ampi.specs.Runs.{run_pieces}
-
--- The longest source, in bytes.
-abbrev pub source_limit : ℕ
-source_limit = 1048576
+use Rattle.ampi.specs.Sources.{AskForFile, IsLoaded, IsTooLong, AreRun, AreNotDone, source_text, setting_of, names_of}
 
 -- The texts of the refusals.
 abbrev pub usage_text : List ℕ
@@ -37,14 +34,6 @@ cannot_read_text name = codes "ampi: cannot read " ++ name ++ codes "\n"
 abbrev pub too_long_text : List ℕ → List ℕ
 too_long_text name = codes "ampi: " ++ name ++ codes " is too long\n"
 
--- why a source is refused, by the cause's number
-abbrev pub cause_text : ℕ → List ℕ
-cause_text cause = if cause == 95 then codes "more than 32 pending values" else codes "source form not built"
-
-abbrev pub source_text : ℕ → ℕ → List ℕ → List ℕ
-source_text line cause name =
-    codes "ampi: " ++ name ++ codes ":" ++ decimal line ++ codes ": " ++ cause_text cause ++ codes "\n"
-
 -- What a call saw of the files: what they hold, and how many loads had failed before it and behind it.
 pub record Reads : Type 0 where
   pub held : Held
@@ -55,48 +44,43 @@ abbrev pub reads : Held → ℕ → ℕ → Reads
 reads held faults_old faults_new = record { held = held; faults_old = faults_old; faults_new = faults_new }
 
 -- The words ask for nothing that is built.
-abbrev pub IsUsage : List (List ℕ) → Type 0
-IsUsage words = (asked : Asked) → AskForRun words asked → ⊥
+pub record IsUsage (words : List (List ℕ)) : Type 0 where
+  pub no_run : (asked : Asked) → AskForRun words asked → ⊥
+  pub no_code : (name : List ℕ) → AskForCode words name → ⊥
 
--- The file's bytes are these, and within the limit. Where files tell nothing, it says no more than the limit.
-pub record IsLoaded (held : Held) (name text : List ℕ) : Type 0 where
-  pub loads : Loads held name source_limit text
-  pub within : length text ≤ source_limit
-
--- The file has more bytes than the limit.
-pub record IsTooLong (held : Held) (name : List ℕ) : Type 0 where
-  pub text : List ℕ
-  pub loads : Loads held name source_limit text
-  pub past : length text ≡ source_limit + 1
-
--- The words ask for a run of a file that is loaded within the limit and is a source of the program, in which no more
--- values are pending anywhere than may be.
-pub record IsAccepted (words : List (List ℕ)) (held : Held) (asked : Asked) (program : Program) : Type 0 where
+-- The words ask for a run of a file that is loaded within the limit, and its text is compiled to this and can be run.
+pub record IsAccepted (words : List (List ℕ)) (held : Held) (asked : Asked) (compiled : Compiled) : Type 0 where
   pub asks : AskForRun words asked
   pub text : List ℕ
   pub loaded : IsLoaded held asked.file text
-  pub source : IsSource text program
-  pub simple : IsSimple program
-
--- the run that accepted words and their program stand for
-abbrev pub setting_of : Asked → Program → Setting
-setting_of asked program = setting program asked.ranks asked.ticks
+  pub is_run : AreRun (text ∷ []) compiled
 
 -- The headline. The journal is a run which MPI's matching rules allow to ranks that never move, each with a private
 -- memory, over perfect queues; the lines and statuses that are written are that run's, each line once; and it ends
 -- only where that run is stuck or at the bound on ticks, in the way that is told.
 pub record Headline (words : List (List ℕ)) (held : Held) (end : End) (pieces : List Piece) : Type 0 where
   pub asked : Asked
-  pub program : Program
+  pub compiled : Compiled
   pub history : List Entry
-  pub accepted : IsAccepted words held asked program
-  pub cut_and_marked : IsMarkedDrain (setting_of asked program) history
-  pub allowed : IsLegal (setting_of asked program) history
-  pub ended : IsStuck (setting_of asked program) history
+  pub accepted : IsAccepted words held asked compiled
+  pub cut_and_marked : IsMarkedDrain (setting_of asked compiled) history
+  pub allowed : IsLegal (setting_of asked compiled) history
+  pub ended : IsStuck (setting_of asked compiled) history
   pub texts : (journal_of pieces ≡ journal_text asked.ranks asked.ticks history)
-      × (out_of pieces ≡ released_lines (setting_of asked program) history ++ report_text asked.file (setting_of asked program) on_first history)
-  pub in_order : pieces ≡ run_pieces asked.file (setting_of asked program) history
-  pub status : end_at (setting_of asked program) (world_of history) ≡ end
+      × (out_of pieces
+      ≡ released_lines (setting_of asked compiled) history ++ report_text (names_of asked) (setting_of asked compiled) on_first history)
+  pub in_order : pieces ≡ run_pieces (names_of asked) (setting_of asked compiled) history
+  pub status : end_at (setting_of asked compiled) (world_of history) ≡ end
+
+-- The words ask for the listing of a file, and this is the listing of code that means its program.
+pub record Listed (words : List (List ℕ)) (held : Held) (pieces : List Piece) : Type 0 where
+  pub name : List ℕ
+  pub asks : AskForCode words name
+  pub text : List ℕ
+  pub loaded : IsLoaded held name text
+  pub compiled : Compiled
+  pub is_compiled : IsCompiled (text ∷ []) compiled
+  pub text_is : pieces ≡ ToOut (listing_from 0 compiled.code.instrs) ∷ []
 
 -- The words are refused.
 pub record ToldUsage (words : List (List ℕ)) (pieces : List Piece) : Type 0 where
@@ -106,27 +90,29 @@ pub record ToldUsage (words : List (List ℕ)) (pieces : List Piece) : Type 0 wh
 -- A file is refused: the first one, for this reason and in these words.
 pub record ToldOfFile (words : List (List ℕ)) (file : ℕ) (reason : List ℕ → Type 0) (text : List ℕ → List ℕ) (pieces : List Piece)
     : Type 0 where
-  pub asked : Asked
-  pub asks : AskForRun words asked
+  pub name : List ℕ
+  pub asks : AskForFile words name
   pub first : file ≡ 0
-  pub because : reason asked.file
-  pub text_is : pieces ≡ ToOut (text asked.file) ∷ []
+  pub because : reason name
+  pub text_is : pieces ≡ ToOut (text name) ∷ []
 
--- The source is refused, at this line and for this cause: it is none of the form, or more values are pending in it than
--- may be.
-abbrev pub IsCause : List ℕ → ℕ → ℕ → Type 0
-IsCause text line cause =
-    ((line ≡ 1) × (cause ≡ 99) × IsNotBuilt text) ⊎ ((cause ≡ 95) × IsTooComplexSource text line)
-
-pub record IsRefusedSource (held : Held) (line cause : ℕ) (name : List ℕ) : Type 0 where
+-- The source is refused: for this cause, in the file of this number, at this line.
+pub record ToldOfSource (words : List (List ℕ)) (held : Held) (file line cause : ℕ) (pieces : List Piece) : Type 0 where
+  pub name : List ℕ
+  pub asks : AskForFile words name
   pub text : List ℕ
   pub loaded : IsLoaded held name text
-  pub because : IsCause text line cause
+  pub refusal : Refusal
+  pub because : AreNotDone words name (text ∷ []) refusal
+  pub file_is : file ≡ refusal.unit
+  pub line_is : line ≡ refusal.line
+  pub cause_is : cause ≡ cause_number refusal.cause
+  pub text_is : pieces ≡ ToOut (source_text (name ∷ []) refusal) ∷ []
 
 -- What an answer tells of these words and files, by these pieces. That a file can't be read is told only where a load
 -- failed in this call. The last two answers break off another one.
 abbrev pub Explains : List (List ℕ) → Reads → Status → List Piece → Type 0
-Explains words r Done pieces = Headline words r.held end.Done pieces
+Explains words r Done pieces = Headline words r.held end.Done pieces ⊎ Listed words r.held pieces
 Explains words r Deadlock pieces = Headline words r.held end.Deadlock pieces
 Explains words r OutOfTicks pieces = Headline words r.held end.OutOfTicks pieces
 Explains words r (Trapped rank) pieces = Headline words r.held (end.Trapped (record { 0 = rank })) pieces
@@ -134,8 +120,7 @@ Explains words r Usage pieces = ToldUsage words pieces
 Explains words r (ReadFault file) pieces =
     ToldOfFile words file (λ name. Rose r.faults_old r.faults_new) cannot_read_text pieces
 Explains words r (TooLong file) pieces = ToldOfFile words file (IsTooLong r.held) too_long_text pieces
-Explains words r (Source file line cause) pieces =
-    ToldOfFile words file (IsRefusedSource r.held line cause) (source_text line cause) pieces
+Explains words r (Source file line cause) pieces = ToldOfSource words r.held file line cause pieces
 Explains words r WriteFault pieces = ⊥
 Explains words r NoMemory pieces = ⊥
 
@@ -155,8 +140,8 @@ pub record IsPartTold (words : List (List ℕ)) (r : Reads) (p : Puts) : Type 0 
 -- Of an accepted run a first part of the journal's first line was put.
 pub record IsRunBegun (words : List (List ℕ)) (r : Reads) (p : Puts) : Type 0 where
   pub asked : Asked
-  pub program : Program
-  pub accepted : IsAccepted words r.held asked program
+  pub compiled : Compiled
+  pub accepted : IsAccepted words r.held asked compiled
   pub got : GotPart p (ToJournal (header_line asked.ranks asked.ticks) ∷ [])
 
 abbrev pub IsBrokenOff : List (List ℕ) → Reads → Puts → Type 0

@@ -1,6 +1,6 @@
 pub mod Status
-pub mod Refusal
 pub mod Puts
 pub mod Runs
+pub mod Sources
 pub mod Answers
 pub mod Yields

@@ -1,10 +1,13 @@
 -- An answer comes, or yields to a write that fails or to want of memory.
-use Rattle.std.specs.Prelude.{ℕ, ◌≡◌, List, Some}
+use Rattle.std.specs.Prelude.{ℕ, ◌≡◌, List, [], ◌∷◌, Some}
 use Rattle.am_io.specs.Contents.{Held}
-use Rattle.thin_model.specs.declared.tree.Program.{Program}
-use Rattle.run_words.specs.Words.{Asked, AskForRun}
-use Rattle.thin_compile.specs.Source.{IsNotBuilt, IsTooComplexSource}
-use Rattle.ampi.specs.Answers.{IsLoaded, IsTooLong, IsAccepted}
+use Rattle.run_words.specs.Words.{Asked, AskForCode}
+use Rattle.c_compile.specs.declared.compiled.Compiled.{Compiled}
+use Rattle.c_compile.specs.declared.error.Refusal.{Refusal}
+use Rattle.c_compile.specs.Causes.{cause_number}
+use Rattle.c_compile.specs.Programs.{IsCompiled}
+use Rattle.ampi.specs.Sources.{AskForFile, IsLoaded, IsTooLong, AreNotDone}
+use Rattle.ampi.specs.Answers.{IsAccepted}
 use Rattle.ampi.specs.declared.status.Status.{Status}
 use Rattle.ampi.specs.declared.status.Status.TheVariants.{Done, Usage, ReadFault, TooLong, Source, Deadlock, OutOfTicks, Trapped, WriteFault, NoMemory}
 
@@ -36,28 +39,28 @@ EndsRun (Source file line cause) = ⊥
 -- Where the files are told and none of their loads failed, an answer comes wherever its reason is there.
 abbrev pub TooLongComes : List (List ℕ) → Held → Status → Type 0
 TooLongComes words held status =
-    (files : List (List ℕ × List ℕ)) (asked : Asked) → held ≡ Some files → AskForRun words asked
-    → IsTooLong (Some files) asked.file → Yields (TooLong 0) status
+    (files : List (List ℕ × List ℕ)) (name : List ℕ) → held ≡ Some files → AskForFile words name
+    → IsTooLong (Some files) name → Yields (TooLong 0) status
 
-abbrev pub NotBuiltComes : List (List ℕ) → Held → Status → Type 0
-NotBuiltComes words held status =
-    (files : List (List ℕ × List ℕ)) (asked : Asked) (text : List ℕ) → held ≡ Some files → AskForRun words asked
-    → IsLoaded (Some files) asked.file text → IsNotBuilt text → Yields (Source 0 1 99) status
+abbrev pub RefusalComes : List (List ℕ) → Held → Status → Type 0
+RefusalComes words held status =
+    (files : List (List ℕ × List ℕ)) (name text : List ℕ) (r : Refusal) → held ≡ Some files → AskForFile words name
+    → IsLoaded (Some files) name text → AreNotDone words name (text ∷ []) r → Yields (Source r.unit r.line (cause_number r.cause)) status
 
-abbrev pub TooComplexComes : List (List ℕ) → Held → Status → Type 0
-TooComplexComes words held status =
-    (files : List (List ℕ × List ℕ)) (asked : Asked) (text : List ℕ) (line : ℕ) → held ≡ Some files → AskForRun words asked
-    → IsLoaded (Some files) asked.file text → IsTooComplexSource text line → Yields (Source 0 line 95) status
+abbrev pub CodeComes : List (List ℕ) → Held → Status → Type 0
+CodeComes words held status =
+    (files : List (List ℕ × List ℕ)) (name text : List ℕ) (compiled : Compiled) → held ≡ Some files → AskForCode words name
+    → IsLoaded (Some files) name text → IsCompiled (text ∷ []) compiled → Yields Done status
 
 abbrev pub RunComes : List (List ℕ) → Held → Status → Type 0
 RunComes words held status =
-    (files : List (List ℕ × List ℕ)) (asked : Asked) (program : Program) → held ≡ Some files
-    → IsAccepted words (Some files) asked program → EndsRun status
+    (files : List (List ℕ × List ℕ)) (asked : Asked) (compiled : Compiled) → held ≡ Some files
+    → IsAccepted words (Some files) asked compiled → EndsRun status
 
 pub record Comes (words : List (List ℕ)) (held : Held) (status : Status) : Type 0 where
   pub too_long : TooLongComes words held status
-  pub not_built : NotBuiltComes words held status
-  pub too_complex : TooComplexComes words held status
+  pub refusal : RefusalComes words held status
+  pub code : CodeComes words held status
   pub run : RunComes words held status
 
 -- the same where no write can fail

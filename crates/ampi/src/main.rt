@@ -2,10 +2,10 @@
 #![tactic(auto)]
 
 mod host;
-mod refusal;
 mod run;
 mod status;
 mod sure;
+mod telling;
 #[cfg(test)]
 mod tests;
 mod top;

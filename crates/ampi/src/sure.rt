@@ -20,8 +20,8 @@ pub fn ampi_surely(
 ) -> Status
     ensures answers { Answers (bytes_of_words words.now) (reads (Some files.old) 0 0)
         (puts (Some out.old.bytes) (Some out.new.bytes) (Some journal.old.bytes) (Some journal.new.bytes)) result }
-    ensures complete { (asked : _) (program : _)
-        → IsAccepted (bytes_of_words words.now) (Some files.old) asked program → EndsRunOrNoMemory result }
+    ensures complete { (asked : _) (compiled : _)
+        → IsAccepted (bytes_of_words words.now) (Some files.old) asked compiled → EndsRunOrNoMemory result }
 {
     ampi(alloc, words, files, out, journal)
 }

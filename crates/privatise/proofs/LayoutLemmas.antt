@@ -67,7 +67,7 @@ filled_long o =
     length-take-le o.size (o.initial.bytes ++ replicate o.size 0)
     (omega (arith, length-append o.initial.bytes (replicate o.size 0), length-replicate {A = ℕ} o.size 0))
 
-object_long : (objects : List StaticObject) (o : StaticObject) → length (bytes_of_object objects o) ≡ o.size
+pub object_long : (objects : List StaticObject) (o : StaticObject) → length (bytes_of_object objects o) ≡ o.size
 object_long objects o = stay objects o o.initial.fixes (filled o) (filled_long o)
 
 other : (x y : ℕ) (b : Bool) → b ≡ false → y ≡ 0 → cond b x y ≡ 0

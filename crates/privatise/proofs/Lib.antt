@@ -6,3 +6,4 @@ mod AnswerLemmas
 mod ByteLemmas
 mod LayoutLemmas
 mod OffsetLemmas
+mod FitLemmas

@@ -5,6 +5,7 @@ ghost use Rattle.std.specs.Prelude.{IfOk, IfErr};
 ghost use Rattle.c_types.specs.declared.program.Program.{Program};
 ghost use Rattle.c_types.specs.Segment.{SegmentOf};
 ghost use Rattle.privatise.specs.Answers.{IsWhy, IsTold, HasAnswer};
+ghost use Rattle.privatise.specs.Fits.{SegmentsFit};
 
 mod definitions;
 mod error;
@@ -39,4 +40,9 @@ pub fn privatise(alloc: Global, program: &Program) -> Result<Segment, SegError>
 /// A law: each program has a segment or a first refusal.
 pub fn some_answer()
     ensures { (program : Program) → HasAnswer program }
+{}
+
+/// A law: a program's segment fits into the globals of a rank, and each address in it lies in it.
+pub fn segments_fit()
+    ensures { SegmentsFit }
 {}

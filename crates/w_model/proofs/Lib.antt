@@ -1,2 +1,1 @@
-pub mod ReleaseLemmas
 pub mod DrainLemmas

@@ -3,7 +3,7 @@ use Rattle.std.specs.Prelude.{ℕ, ◌≡◌, if◌then◌else◌, false, List, 
 use Rattle.std.specs.List.{flat_map, range_with_len, AllByRecursion}
 use Rattle.std.specs.Fmt.{decimal}
 use Rattle.am_base.specs.Released.{released_line}
-use Rattle.thin_model.specs.Lines.{lines_of}
+use Rattle.w_model.specs.Printed.{lines_of}
 use Rattle.mpi_types.specs.declared.entries.Entry.{Entry}
 use Rattle.w_model.specs.World.{Setting, World, start_world, after, outcome_at}
 use Rattle.mpi_types.specs.Runs.{is_mark}

@@ -1,3 +1,4 @@
+pub mod Printed
 pub mod World
 pub mod Cut
 pub mod Texts

@@ -1,16 +1,20 @@
 -- A history of a run, the world after it, and which entries may stand where. It speaks of ranks that never move, each
 -- with a private memory, and of nothing else: no processors, no packets, no copies.
 use Rattle.std.specs.Prelude.{ℕ, ◌≡◌, ◌+◌, ◌<◌, ◌==◌, if◌then◌else◌, Bool, true, false, List, [], ◌∷◌}
-use Rattle.thin_model.specs.declared.tree.Program.{Program}
-use Rattle.thin_model.specs.Run.{Answer, Outcome, run_of}
-use Rattle.thin_model.specs.declared.tree.Ending.TheVariants.{Paused}
+use Rattle.rank_range.specs.declared.run.Segment.{Segment}
+use Rattle.c_types.specs.declared.program.Program.{Program}
+use Rattle.vm_code.specs.Stops.{Paused}
+use Rattle.c_model.specs.Outcome.{Outcome}
+use Rattle.c_model.specs.Statements.{run_of}
+use Rattle.mpi_types.specs.declared.call.Answer.{Answer}
 use Rattle.mpi_types.specs.declared.entries.Entry.{Entry}
 use Rattle.mpi_types.specs.Runs.{is_mark}
 use Rattle.mpi_types.specs.declared.entries.Entry.TheVariants.{Tick, Match, Gather, Commit}
 
--- What a run is given: its program, how many ranks run it, and how many ticks each may take.
+-- What a run is given: its program with its segment, how many ranks run it, and how many ticks each may take.
 pub record Setting : Type 0 where
   pub program : Program
+  pub segment : Segment
   pub ranks : ℕ
   pub bound : ℕ
 
@@ -34,8 +38,8 @@ start_world = record { rank = λ r. record { answers = []; ticks = 0 } }
 abbrev pub ticked : RankPart → RankPart
 ticked part = record { answers = part.answers; ticks = part.ticks + 1 }
 
--- The world after one more entry. A mark changes nothing. No form of a source has a receive or a collective yet, so
--- there is nothing that a match or a gathering could change.
+-- The world after one more entry. A mark changes nothing. No call of MPI is answered yet, so there is nothing that a match or a
+-- gathering could change.
 abbrev pub after : World → Entry → World
 after w (Tick r) = record { rank = changed_at w.rank r.0 (ticked (w.rank r.0)) }
 after w (Match r request sender) = w
@@ -52,12 +56,13 @@ world_of h = after_all start_world h
 
 -- what the program did on a rank so far
 abbrev pub outcome_at : Setting → World → ℕ → Outcome
-outcome_at s w r = run_of s.program r (w.rank r).answers (w.rank r).ticks
+outcome_at s w r = run_of s.program s.segment r (w.rank r).answers (w.rank r).ticks
 
--- A rank may take a tick: it is one of the run, it hasn't ended, and it has fewer ticks than it may take.
+-- A rank may take a tick: it is one of the run, it is at a tick point, and it has fewer ticks than it may take. At a call of MPI no
+-- tick is taken, as no call is answered yet.
 pub record MayTick (s : Setting) (w : World) (r : ℕ) : Type 0 where
   pub one_of_run : r < s.ranks
-  pub running : (outcome_at s w r).ending ≡ Paused
+  pub running : (outcome_at s w r).stop ≡ Paused
   pub below_bound : (w.rank r).ticks < s.bound
 
 -- Which entries are steps at a world. No receive can be posted and no collective joined yet, so no match and no

@@ -2,9 +2,7 @@
 #![tactic(auto)]
 
 mod laws;
-mod release;
 mod report;
 
 pub use laws::{drains_are_whole, marked_drains_are_whole};
-pub use release::append_lines;
-pub use report::{End, Standing, append_end, append_rank};
+pub use report::{End, Standing, append_end, append_rank, name_of};

@@ -1,10 +1,10 @@
 //! The report: how each rank stands, and how the run ended.
 ghost use Rattle.std.specs.Prelude.{◌≡◌, ◌++◌, OnOk};
-ghost use Rattle.w_model.specs.Texts.{rank_line, state_text, end_line};
+ghost use Rattle.w_model.specs.Texts.{rank_line, state_text, name_of, end_line};
 
 use am_base::{Bytes, ProcId, RankId, decimal, signed_decimal};
+use rank_range::Ending;
 use std::alloc::AllocError;
-use thin_model::Ending;
 
 /// How a run that is stuck ended.
 #[derive(Clone, Copy, Debug, PartialEq, Eq)]
@@ -27,19 +27,19 @@ pub struct Standing {
     pub place: ProcId,
 }
 
-/// Appends the report's line of a rank that runs the program in a file. After an error `out` is only to be dropped.
+/// Appends the report's line of a rank that runs the program in these files, by their names. After an error `out` is only to be dropped.
 pub fn append_rank(
     out: &mut Bytes,
-    file: &[u8],
+    files: &[Bytes],
     rank: RankId,
     standing: Standing,
     bound: u64,
 ) -> Result<(), AllocError>
-    ensures { OnOk result (out.new ≡ out.old ++ rank_line file.now rank.0 standing.ending standing.ticks bound standing.place.0) }
+    ensures { OnOk result (out.new ≡ out.old ++ rank_line files.now rank.0 standing.ending standing.ticks bound standing.place.0) }
 {
     out.append(b"rank ")?;
     decimal(out, u64::from(rank.0))?;
-    append_state(out, file, standing, bound)?;
+    append_state(out, files, standing, bound)?;
     out.append(b" ticks ")?;
     decimal(out, standing.ticks)?;
     out.append(b" on ")?;
@@ -47,13 +47,23 @@ pub fn append_rank(
     out.append(b"\n")
 }
 
+/// The name of a file by its number.
+pub fn name_of(files: &[Bytes], unit: u8) -> &[u8]
+    ensures { result.now ≡ name_of files.now unit }
+{
+    match files.get(usize::from(unit)) {
+        Some(name) => name.as_slice(),
+        None => &[],
+    }
+}
+
 fn append_state(
     out: &mut Bytes,
-    file: &[u8],
+    files: &[Bytes],
     standing: Standing,
     bound: u64,
 ) -> Result<(), AllocError>
-    ensures { OnOk result (out.new ≡ out.old ++ state_text file.now standing.ending standing.ticks bound) }
+    ensures { OnOk result (out.new ≡ out.old ++ state_text files.now standing.ending standing.ticks bound) }
 {
     match standing.ending {
         Ending::Ended(status) => {
@@ -64,12 +74,12 @@ fn append_state(
             out.append(b" trapped ")?;
             out.append(why.cause.text())?;
             out.append(b" at ")?;
-            out.append(file)?;
+            out.append(name_of(files, why.unit))?;
             out.append(b":")?;
             decimal(out, u64::from(why.line))
         }
-        Ending::Paused if standing.ticks == bound => out.append(b" at bound"),
-        Ending::Paused => out.append(b" waiting"),
+        Ending::Running if standing.ticks == bound => out.append(b" at bound"),
+        Ending::Running => out.append(b" waiting"),
     }
 }
 

@@ -1,3 +1,4 @@
+#include <stdio.h>
 int main(void) {
   int i = 0;
   while (i < 1024) {

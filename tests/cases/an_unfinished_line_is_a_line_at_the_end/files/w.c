@@ -1,3 +1,4 @@
+#include <stdio.h>
 int main(void) {
 	printf("a\n\nb");
 	printf("c");

@@ -1,3 +1,4 @@
+#include <stdio.h>
 int main(void) {
   printf("whole\nbegun");
   while (1)

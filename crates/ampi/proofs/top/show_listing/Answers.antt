@@ -1,0 +1,5 @@
+use Rattle.ampi.proofs.top.show_listing.Goals as goal
+
+pub returns-in-Ok-clause-told : goal.returns-in-Ok-clause-told
+returns-in-Ok-clause-told g c = λ words r journal explains.
+    c.tell.ensures.told words r journal (rw (c.as_slice.ensures, c.in-Ok.ensures) explains)

@@ -1,0 +1,4 @@
+pub mod Job
+pub mod Rank
+pub mod Group
+pub mod Told

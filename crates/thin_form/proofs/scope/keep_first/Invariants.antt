@@ -1,8 +1,0 @@
-use Rattle.std.proofs.Common.{◌≡◌, take, length}
-use Rattle.thin_form.proofs.scope.keep_first.Given as goal
-
-abbrev pub invariant-loop-names : goal.invariant-loop-names
-invariant-loop-names l = take l.count l.names ≡ take l.count l.initial.names
-
-abbrev pub decreases-loop-names : goal.decreases-loop-names
-decreases-loop-names l = length l.names

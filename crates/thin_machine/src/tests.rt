@@ -1,4 +1,0 @@
-mod operators;
-mod programs;
-mod runs;
-mod steps;

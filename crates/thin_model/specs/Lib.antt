@@ -1,4 +1,0 @@
-pub mod Operators
-pub mod Run
-pub mod Need
-pub mod Lines

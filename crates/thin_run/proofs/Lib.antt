@@ -1,4 +1,0 @@
-pub mod StepLemmas
-pub mod GroupLemmas
-pub mod ToldLemmas
-pub mod WholeLemmas

@@ -1,7 +1,0 @@
-use Rattle.thin_run.proofs.GroupLemmas.{adds-run}
-use Rattle.thin_run.proofs.group.run_rank.Goals as goal
-
-pub returns : goal.returns
-returns c =
-    adds-run _ _ _ _ _ _ _ c.index-ranks-at.result c.run.new.self _ c.requires.within c.requires.stand
-    c.in_ok-taken.ensures c.in_ok-push.ensures.ok

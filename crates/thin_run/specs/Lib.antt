@@ -1,3 +1,0 @@
-pub mod Rank
-pub mod Group
-pub mod Told

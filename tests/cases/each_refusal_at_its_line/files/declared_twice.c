@@ -1,0 +1,5 @@
+int main(void) {
+  int a;
+  long a;
+  return 0;
+}

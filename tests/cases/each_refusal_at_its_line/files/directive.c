@@ -1,0 +1,2 @@
+#ifdef A
+int main(void) { return 0; }

@@ -1,0 +1,5 @@
+struct s;
+int main(void) {
+  struct s a;
+  return 0;
+}

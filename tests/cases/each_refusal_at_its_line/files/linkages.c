@@ -1,0 +1,5 @@
+static int a;
+extern int b;
+int c;
+static int c;
+int main(void) { return 0; }

@@ -1,0 +1,6 @@
+struct s { int a; };
+int main(void) {
+  struct s x;
+  x.a = 1;
+  return x.b;
+}

@@ -1,0 +1,5 @@
+int main(void) {
+  int a = 2;
+  static int b = a;
+  return b;
+}

@@ -1,0 +1,6 @@
+struct s { int a; };
+int main(void) {
+  struct s x;
+  if (x) return 1;
+  return 0;
+}

@@ -1,0 +1,5 @@
+int main(void) {
+  int a;
+  long *p = &a;
+  return 0;
+}
