@@ -15,3 +15,6 @@ pub mod GatherLemmas
 pub mod ReadyLemmas
 pub mod OrderLemmas
 pub mod TakenLemmas
+pub mod SteadyLemmas
+pub mod SteadyCalls
+pub mod SteadyEnds

@@ -23,13 +23,13 @@ found_any test [] = refl
 found_any {X} test (x ∷ xs) =
     elim (test x) as (λ b. is_some (cond b (Some x) (find test xs)) ≡ (b || list_any test xs)) [ true ↦ refl | false ↦ found_any test xs ]
 
-or_true : (a b : Bool) → (a ≡ true) ⊎ (b ≡ true) → (a || b) ≡ true
+pub or_true : (a b : Bool) → (a ≡ true) ⊎ (b ≡ true) → (a || b) ≡ true
 or_true true b h = refl
 or_true false true h = refl
 or_true false false (inl h) = h
 or_true false false (inr h) = h
 
-true_or : (a b : Bool) → (a || b) ≡ true → (a ≡ true) ⊎ (b ≡ true)
+pub true_or : (a b : Bool) → (a || b) ≡ true → (a ≡ true) ⊎ (b ≡ true)
 true_or true b h = inl refl
 true_or false b h = inr h
 
@@ -39,7 +39,7 @@ same_bool false true f g = g refl
 same_bool false false f g = refl
 
 -- The number is live in the book just where the test of the data says so.
-live_tested : (l : BookLists) (n : ℕ) → IsLive l n → (is_waiting n l.posted || is_some (pair_of n l.matched)) ≡ true
+pub live_tested : (l : BookLists) (n : ℕ) → IsLive l n → (is_waiting n l.posted || is_some (pair_of n l.matched)) ≡ true
 live_tested l n (inl w) = or_true (is_waiting n l.posted) (is_some (pair_of n l.matched)) (inl (any_tested (λ q. q.request) l.posted n w))
 live_tested l n (inr m) =
     or_true (is_waiting n l.posted) (is_some (pair_of n l.matched))

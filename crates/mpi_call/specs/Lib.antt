@@ -11,3 +11,4 @@ pub mod Arrays
 pub mod Gathers
 pub mod Ready
 pub mod InOrder
+pub mod Steady

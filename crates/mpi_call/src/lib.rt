@@ -26,5 +26,8 @@ mod waits;
 pub use begins::begin;
 pub use done::{Began, CallStop, Finished};
 pub use finishes::finish;
-pub use laws::{begun_receives_may_finish, ended_calls_keep_requests_in_order};
+pub use laws::{
+    arrivals_keep_ranks_steady, begun_calls_keep_ranks_steady, begun_receives_may_finish,
+    ended_calls_keep_ranks_steady, ended_calls_keep_requests_in_order, steady_ranks_may_begin,
+};
 pub use ready::answerable;
