@@ -18,3 +18,4 @@ pub mod TakenLemmas
 pub mod SteadyLemmas
 pub mod SteadyCalls
 pub mod SteadyEnds
+pub mod SteadyStart

@@ -1,11 +1,14 @@
 -- What holds of a rank's MPI data from call to call.
-use Rattle.std.specs.Prelude.{ℕ, ◌≡◌, ◌+◌, ◌-◌, ◌^◌, ◌<◌, ◌≤◌, All, length, true, false, List, Option, None}
+use Rattle.std.specs.Prelude.{ℕ, zero, suc, ◌≡◌, ◌+◌, ◌^◌, ◌<◌, ◌≤◌, ◌++◌, All, length, true, false, List, [], ◌∷◌, Option, None}
 use Rattle.am_base.specs.declared.calls.MpiCall.{MpiCall}
+use Rattle.am_base.specs.declared.numbers.RankId.{RankId}
 use Rattle.rank_range.specs.Areas.{Areas}
 use Rattle.mpi_types.specs.declared.lists.BookLists.{BookLists}
 use Rattle.mpi_types.specs.declared.message.Hit.{Hit}
 use Rattle.mpi_types.specs.declared.message.Message.{Message}
 use Rattle.mpi_types.specs.declared.state.OwnData.{OwnData}
+use Rattle.mpi_types.specs.declared.state.Phase.TheVariants.{Before}
+use Rattle.mpi_types.specs.declared.argument.Sweep.{Sweep}
 use Rattle.mpi_types.specs.Post.{Arrives}
 use Rattle.mpi_rules.specs.Calls.{reply_to}
 use Rattle.mpi_rules.specs.Data.{is_live, data_of, place_among}
@@ -56,3 +59,30 @@ abbrev pub SteadyBegin : Type 0
 SteadyBegin =
     (rank ticks : ℕ) (k : Kept) → IsSteady rank ticks k → k.sweep.joined ≡ None → ticks + 2 < 2 ^ 32
     → MayBegin rank k.own k.sweep k.lists
+
+-- ---- before the first call
+
+-- the first ranks of the world, so many
+abbrev pub members_below : ℕ → List RankId
+members_below zero = []
+members_below (suc n) = members_below n ++ record { 0 = n } ∷ []
+
+-- before `MPI_Init`, with no request, and with one communicator: `MPI_COMM_WORLD`, of all ranks
+unfoldable pub own_at_start : ℕ → OwnData
+own_at_start ranks =
+    record {
+      phase = Before;
+      next = 1;
+      complete = [];
+      communicators = record { number = 1; group = record { ctx = []; members = members_below ranks }; position = 0 } ∷ [];
+    }
+
+abbrev pub no_lists : BookLists
+no_lists = record { posted = []; matched = []; arrived = [] }
+
+abbrev pub no_sweep : Sweep
+no_sweep = record { joined = None; tree = [] }
+
+-- It holds of a rank before its first tick.
+abbrev pub StartsSteady : Type 0
+StartsSteady = (rank ranks : ℕ) → rank < ranks → ranks ≤ 256 → IsSteady rank 0 (kept (own_at_start ranks) no_sweep no_lists)

@@ -1,7 +1,7 @@
 //! What holds from call to call.
 
 ghost use Rattle.mpi_call.specs.InOrder.{ReceivesMayFinish, StayInOrder};
-ghost use Rattle.mpi_call.specs.Steady.{ArrivesSteady, BeginsSteady, EndsSteady, SteadyBegin};
+ghost use Rattle.mpi_call.specs.Steady.{ArrivesSteady, BeginsSteady, EndsSteady, StartsSteady, SteadyBegin};
 
 /// A law: the requests of a rank stay in order where a call ends.
 pub fn ended_calls_keep_requests_in_order()
@@ -31,4 +31,9 @@ pub fn begun_calls_keep_ranks_steady()
 /// A law: it holds behind the second tick of a receive, and behind Wait, Waitall and Test.
 pub fn ended_calls_keep_ranks_steady()
     ensures { EndsSteady }
+{}
+
+/// A law: it holds of a rank before its first call.
+pub fn ranks_start_steady()
+    ensures { StartsSteady }
 {}
