@@ -1,0 +1,5 @@
+int
+main(void) {
+  char room[131073];
+  return room[0];
+}
