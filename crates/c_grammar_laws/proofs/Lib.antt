@@ -1,6 +1,7 @@
 pub mod Agrees
 pub mod AllLate
 pub mod AllStand
+pub mod AnswerLaws
 pub mod CauseLaws
 pub mod DeclaratorComplete
 pub mod DeclaratorSound

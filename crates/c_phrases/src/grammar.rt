@@ -27,10 +27,7 @@ impl<F: Fn(Global, &mut Cursor<'_>, u8, Wanted) -> Result<Phrase, ParseError>> G
     {
         match (self.parse)(self.alloc, cursor, self.room, Wanted::Expr(extent))? {
             Phrase::Expr(expr) => Ok(expr),
-            other => {
-                drop(other);
-                Err(ParseError::Memory)
-            }
+            _ => unreachable!(),
         }
     }
 
@@ -56,10 +53,7 @@ impl<F: Fn(Global, &mut Cursor<'_>, u8, Wanted) -> Result<Phrase, ParseError>> G
     {
         match (self.parse)(self.alloc, cursor, self.room, Wanted::Specs)? {
             Phrase::Specs(found) => Ok(found),
-            other => {
-                drop(other);
-                Err(ParseError::Memory)
-            }
+            _ => unreachable!(),
         }
     }
 
@@ -71,10 +65,7 @@ impl<F: Fn(Global, &mut Cursor<'_>, u8, Wanted) -> Result<Phrase, ParseError>> G
     {
         match (self.parse)(self.alloc, cursor, self.room, Wanted::Declarator)? {
             Phrase::Declarator(found) => Ok(found),
-            other => {
-                drop(other);
-                Err(ParseError::Memory)
-            }
+            _ => unreachable!(),
         }
     }
 
@@ -89,10 +80,7 @@ impl<F: Fn(Global, &mut Cursor<'_>, u8, Wanted) -> Result<Phrase, ParseError>> G
     {
         match (self.parse)(self.alloc, cursor, self.room, Wanted::Unnamed)? {
             Phrase::Unnamed(found) => Ok(found),
-            other => {
-                drop(other);
-                Err(ParseError::Memory)
-            }
+            _ => unreachable!(),
         }
     }
 
@@ -104,10 +92,7 @@ impl<F: Fn(Global, &mut Cursor<'_>, u8, Wanted) -> Result<Phrase, ParseError>> G
     {
         match (self.parse)(self.alloc, cursor, self.room, Wanted::ParamDeclarator)? {
             Phrase::Param(found) => Ok(found),
-            other => {
-                drop(other);
-                Err(ParseError::Memory)
-            }
+            _ => unreachable!(),
         }
     }
 
@@ -119,10 +104,7 @@ impl<F: Fn(Global, &mut Cursor<'_>, u8, Wanted) -> Result<Phrase, ParseError>> G
     {
         match (self.parse)(self.alloc, cursor, self.room, Wanted::TypeInParens)? {
             Phrase::TypeInParens(found) => Ok(found),
-            other => {
-                drop(other);
-                Err(ParseError::Memory)
-            }
+            _ => unreachable!(),
         }
     }
 }

@@ -81,10 +81,7 @@ pub fn expr(
 {
     match phrase(alloc, cursor, room, Wanted::Expr(extent))? {
         Phrase::Expr(expr) => Ok(expr),
-        other => {
-            drop(other);
-            Err(ParseError::Memory)
-        }
+        _ => unreachable!(),
     }
 }
 
@@ -95,10 +92,7 @@ pub fn specs(alloc: Global, cursor: &mut Cursor<'_>, room: u8) -> Result<ReadSpe
 {
     match phrase(alloc, cursor, room, Wanted::Specs)? {
         Phrase::Specs(specs) => Ok(specs),
-        other => {
-            drop(other);
-            Err(ParseError::Memory)
-        }
+        _ => unreachable!(),
     }
 }
 
@@ -113,9 +107,6 @@ pub fn declarator(
 {
     match phrase(alloc, cursor, room, Wanted::Declarator)? {
         Phrase::Declarator(declarator) => Ok(declarator),
-        other => {
-            drop(other);
-            Err(ParseError::Memory)
-        }
+        _ => unreachable!(),
     }
 }

@@ -1,4 +1,3 @@
-use Rattle.c_grammar_laws.proofs.CauseLaws.{one_caused}
 use Rattle.c_grammar_laws.proofs.RefusalLaws.{goes_on, one_refused}
 use Rattle.c_grammar_laws.proofs.UnitRefused.{all_viable}
 use Rattle.c_grammar_laws.proofs.one_refusal.Goals as goal
@@ -8,6 +7,3 @@ returns-clause-goes_on c = goes_on
 
 pub returns-clause-one : goal.returns-clause-one
 returns-clause-one c = λ limit most. one_refused limit most (all_viable limit)
-
-pub returns-clause-cause : goal.returns-clause-cause
-returns-clause-cause c = one_caused
