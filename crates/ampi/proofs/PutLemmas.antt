@@ -6,7 +6,7 @@ use Rattle.am_io.specs.Pieces.{AppendsPart}
 use Rattle.am_io.proofs.PieceLemmas.{Appends-same, Appends-append, AppendsPart-nothing}
 use Rattle.am_io.specs.declared.saying.SayError.{SayError}
 use Rattle.am_io.specs.declared.saying.SayError.TheVariants.{Failed, Memory}
-use Rattle.ampi.specs.Puts.{Piece, ToOut, ToJournal, out_of, journal_of, first_bytes, puts, GotWhole, GotPart}
+use Rattle.ampi.specs.Puts.{Piece, ToOut, ToJournal, out_of, journal_of, first_bytes, puts, GotPart}
 
 -- nothing was put
 pub appends-none : (o : Option (List ℕ)) → Appends o o []

@@ -15,7 +15,7 @@ use Rattle.w_model.proofs.DrainLemmas.{drain-whole, marked-whole}
 use Rattle.cluster.specs.declared.told.Told.{Told}
 use Rattle.cluster.specs.Told.{TellsOfRun, on_first}
 use Rattle.ampi.specs.Puts.{Piece, ToOut, ToJournal, puts, GotPart}
-use Rattle.ampi.specs.Runs.{marked_pieces, run_pieces, IsRun, PutsRun, PutsRunPart}
+use Rattle.ampi.specs.Runs.{marked_pieces, IsRun, PutsRun, PutsRunPart}
 use Rattle.ampi.proofs.PutLemmas.{appends-none, appends-one, part-out, part-journal}
 
 -- what the one mark behind unmarked entries puts

@@ -11,7 +11,7 @@ use Rattle.c_compile.specs.Programs.{IsCompiled}
 use Rattle.mpi_types.specs.declared.entries.Entry.{Entry}
 use Rattle.w_model.specs.declared.report.End.{End}
 use Rattle.w_model.specs.declared.report.End.TheVariants as end
-use Rattle.w_model.specs.World.{Setting, world_of, IsLegal, IsStuck}
+use Rattle.w_model.specs.World.{world_of, IsLegal, IsStuck}
 use Rattle.w_model.specs.Cut.{released_lines}
 use Rattle.w_model.specs.Texts.{report_text, end_at}
 use Rattle.mpi_types.specs.Journal.{header_line, journal_text}
@@ -21,7 +21,7 @@ use Rattle.ampi.specs.declared.status.Status.{Status}
 use Rattle.ampi.specs.declared.status.Status.TheVariants.{Done, Usage, ReadFault, TooLong, Source, Deadlock, OutOfTicks, Trapped, WriteFault, NoMemory}
 use Rattle.ampi.specs.Puts.{Piece, ToOut, ToJournal, out_of, journal_of, Puts, GotWhole, GotPart}
 use Rattle.ampi.specs.Runs.{run_pieces}
-use Rattle.ampi.specs.Sources.{AskForFile, IsLoaded, IsTooLong, AreRun, AreNotDone, source_text, setting_of, names_of}
+use Rattle.ampi.specs.Sources.{AskForFiles, AreLoaded, IsReached, IsTooLong, AreRun, AreNotDone, source_text, setting_of}
 
 -- The texts of the refusals.
 abbrev pub usage_text : List ℕ
@@ -46,14 +46,14 @@ reads held faults_old faults_new = record { held = held; faults_old = faults_old
 -- The words ask for nothing that is built.
 pub record IsUsage (words : List (List ℕ)) : Type 0 where
   pub no_run : (asked : Asked) → AskForRun words asked → ⊥
-  pub no_code : (name : List ℕ) → AskForCode words name → ⊥
+  pub no_code : (names : List (List ℕ)) → AskForCode words names → ⊥
 
--- The words ask for a run of a file that is loaded within the limit, and its text is compiled to this and can be run.
+-- The words ask for a run of files that are loaded within the limit, and their texts are compiled to this and can be run.
 pub record IsAccepted (words : List (List ℕ)) (held : Held) (asked : Asked) (compiled : Compiled) : Type 0 where
   pub asks : AskForRun words asked
-  pub text : List ℕ
-  pub loaded : IsLoaded held asked.file text
-  pub is_run : AreRun (text ∷ []) compiled
+  pub texts : List (List ℕ)
+  pub loaded : AreLoaded held asked.files texts
+  pub is_run : AreRun texts compiled
 
 -- The headline. The journal is a run which MPI's matching rules allow to ranks that never move, each with a private
 -- memory, over perfect queues; the lines and statuses that are written are that run's, each line once; and it ends
@@ -68,18 +68,18 @@ pub record Headline (words : List (List ℕ)) (held : Held) (end : End) (pieces 
   pub ended : IsStuck (setting_of asked compiled) history
   pub texts : (journal_of pieces ≡ journal_text asked.ranks asked.ticks history)
       × (out_of pieces
-      ≡ released_lines (setting_of asked compiled) history ++ report_text (names_of asked) (setting_of asked compiled) on_first history)
-  pub in_order : pieces ≡ run_pieces (names_of asked) (setting_of asked compiled) history
+      ≡ released_lines (setting_of asked compiled) history ++ report_text asked.files (setting_of asked compiled) on_first history)
+  pub in_order : pieces ≡ run_pieces asked.files (setting_of asked compiled) history
   pub status : end_at (setting_of asked compiled) (world_of history) ≡ end
 
--- The words ask for the listing of a file, and this is the listing of code that means its program.
+-- The words ask for the listing of files, and this is the listing of code that means their program.
 pub record Listed (words : List (List ℕ)) (held : Held) (pieces : List Piece) : Type 0 where
-  pub name : List ℕ
-  pub asks : AskForCode words name
-  pub text : List ℕ
-  pub loaded : IsLoaded held name text
+  pub names : List (List ℕ)
+  pub asks : AskForCode words names
+  pub texts : List (List ℕ)
+  pub loaded : AreLoaded held names texts
   pub compiled : Compiled
-  pub is_compiled : IsCompiled (text ∷ []) compiled
+  pub is_compiled : IsCompiled texts compiled
   pub text_is : pieces ≡ ToOut (listing_from 0 compiled.code.instrs) ∷ []
 
 -- The words are refused.
@@ -87,27 +87,28 @@ pub record ToldUsage (words : List (List ℕ)) (pieces : List Piece) : Type 0 wh
   pub refused : IsUsage words
   pub text_is : pieces ≡ ToOut usage_text ∷ []
 
--- A file is refused: the first one, for this reason and in these words.
-pub record ToldOfFile (words : List (List ℕ)) (file : ℕ) (reason : List ℕ → Type 0) (text : List ℕ → List ℕ) (pieces : List Piece)
-    : Type 0 where
+-- The file of this number is refused, and those before it are loaded: for this reason and in these words.
+pub record ToldOfFile (words : List (List ℕ)) (held : Held) (file : ℕ) (reason : List ℕ → Type 0) (text : List ℕ → List ℕ)
+    (pieces : List Piece) : Type 0 where
+  pub names : List (List ℕ)
+  pub asks : AskForFiles words names
   pub name : List ℕ
-  pub asks : AskForFile words name
-  pub first : file ≡ 0
+  pub reached : IsReached held names file name
   pub because : reason name
   pub text_is : pieces ≡ ToOut (text name) ∷ []
 
 -- The source is refused: for this cause, in the file of this number, at this line.
 pub record ToldOfSource (words : List (List ℕ)) (held : Held) (file line cause : ℕ) (pieces : List Piece) : Type 0 where
-  pub name : List ℕ
-  pub asks : AskForFile words name
-  pub text : List ℕ
-  pub loaded : IsLoaded held name text
+  pub names : List (List ℕ)
+  pub asks : AskForFiles words names
+  pub texts : List (List ℕ)
+  pub loaded : AreLoaded held names texts
   pub refusal : Refusal
-  pub because : AreNotDone words name (text ∷ []) refusal
+  pub because : AreNotDone words names texts refusal
   pub file_is : file ≡ refusal.unit
   pub line_is : line ≡ refusal.line
   pub cause_is : cause ≡ cause_number refusal.cause
-  pub text_is : pieces ≡ ToOut (source_text (name ∷ []) refusal) ∷ []
+  pub text_is : pieces ≡ ToOut (source_text names refusal) ∷ []
 
 -- What an answer tells of these words and files, by these pieces. That a file can't be read is told only where a load
 -- failed in this call. The last two answers break off another one.
@@ -118,8 +119,8 @@ Explains words r OutOfTicks pieces = Headline words r.held end.OutOfTicks pieces
 Explains words r (Trapped rank) pieces = Headline words r.held (end.Trapped (record { 0 = rank })) pieces
 Explains words r Usage pieces = ToldUsage words pieces
 Explains words r (ReadFault file) pieces =
-    ToldOfFile words file (λ name. Rose r.faults_old r.faults_new) cannot_read_text pieces
-Explains words r (TooLong file) pieces = ToldOfFile words file (IsTooLong r.held) too_long_text pieces
+    ToldOfFile words r.held file (λ name. Rose r.faults_old r.faults_new) cannot_read_text pieces
+Explains words r (TooLong file) pieces = ToldOfFile words r.held file (IsTooLong r.held) too_long_text pieces
 Explains words r (Source file line cause) pieces = ToldOfSource words r.held file line cause pieces
 Explains words r WriteFault pieces = ⊥
 Explains words r NoMemory pieces = ⊥

@@ -1,12 +1,12 @@
 -- An answer comes, or yields to a write that fails or to want of memory.
-use Rattle.std.specs.Prelude.{ℕ, ◌≡◌, List, [], ◌∷◌, Some}
+use Rattle.std.specs.Prelude.{ℕ, ◌≡◌, List, Some}
 use Rattle.am_io.specs.Contents.{Held}
 use Rattle.run_words.specs.Words.{Asked, AskForCode}
 use Rattle.c_compile.specs.declared.compiled.Compiled.{Compiled}
 use Rattle.c_compile.specs.declared.error.Refusal.{Refusal}
 use Rattle.c_compile.specs.Causes.{cause_number}
 use Rattle.c_compile.specs.Programs.{IsCompiled}
-use Rattle.ampi.specs.Sources.{AskForFile, IsLoaded, IsTooLong, AreNotDone}
+use Rattle.ampi.specs.Sources.{AskForFiles, AreLoaded, IsReached, IsTooLong, AreNotDone}
 use Rattle.ampi.specs.Answers.{IsAccepted}
 use Rattle.ampi.specs.declared.status.Status.{Status}
 use Rattle.ampi.specs.declared.status.Status.TheVariants.{Done, Usage, ReadFault, TooLong, Source, Deadlock, OutOfTicks, Trapped, WriteFault, NoMemory}
@@ -39,18 +39,18 @@ EndsRun (Source file line cause) = ⊥
 -- Where the files are told and none of their loads failed, an answer comes wherever its reason is there.
 abbrev pub TooLongComes : List (List ℕ) → Held → Status → Type 0
 TooLongComes words held status =
-    (files : List (List ℕ × List ℕ)) (name : List ℕ) → held ≡ Some files → AskForFile words name
-    → IsTooLong (Some files) name → Yields (TooLong 0) status
+    (files : List (List ℕ × List ℕ)) (names : List (List ℕ)) (file : ℕ) (name : List ℕ) → held ≡ Some files → AskForFiles words names
+    → IsReached (Some files) names file name → IsTooLong (Some files) name → Yields (TooLong file) status
 
 abbrev pub RefusalComes : List (List ℕ) → Held → Status → Type 0
 RefusalComes words held status =
-    (files : List (List ℕ × List ℕ)) (name text : List ℕ) (r : Refusal) → held ≡ Some files → AskForFile words name
-    → IsLoaded (Some files) name text → AreNotDone words name (text ∷ []) r → Yields (Source r.unit r.line (cause_number r.cause)) status
+    (files : List (List ℕ × List ℕ)) (names texts : List (List ℕ)) (r : Refusal) → held ≡ Some files → AskForFiles words names
+    → AreLoaded (Some files) names texts → AreNotDone words names texts r → Yields (Source r.unit r.line (cause_number r.cause)) status
 
 abbrev pub CodeComes : List (List ℕ) → Held → Status → Type 0
 CodeComes words held status =
-    (files : List (List ℕ × List ℕ)) (name text : List ℕ) (compiled : Compiled) → held ≡ Some files → AskForCode words name
-    → IsLoaded (Some files) name text → IsCompiled (text ∷ []) compiled → Yields Done status
+    (files : List (List ℕ × List ℕ)) (names texts : List (List ℕ)) (compiled : Compiled) → held ≡ Some files → AskForCode words names
+    → AreLoaded (Some files) names texts → IsCompiled texts compiled → Yields Done status
 
 abbrev pub RunComes : List (List ℕ) → Held → Status → Type 0
 RunComes words held status =

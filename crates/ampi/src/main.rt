@@ -2,6 +2,7 @@
 #![tactic(auto)]
 
 mod host;
+mod loading;
 mod run;
 mod status;
 mod sure;

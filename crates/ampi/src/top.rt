@@ -1,5 +1,5 @@
-//! The top call: words, file, source, and then its run or its listing.
-ghost use Rattle.std.specs.Prelude.{◌≡◌, ◌≤◌, ◌⊎◌, ◌∷◌, [], ℕ, length, string_bytes, Some, Err, IfOk, IfErr, OnOk};
+//! The top call: words, files, sources, and then their run or their listing.
+ghost use Rattle.std.specs.Prelude.{◌≡◌, ◌≤◌, ◌⊎◌, ◌∷◌, [], ℕ, length, map, string_bytes, Some};
 ghost use Rattle.am_io.specs.Faults.{Rose};
 ghost use Rattle.run_words.specs.Words.{AskForCode};
 ghost use Rattle.run_words.specs.Asks.{bytes_of_words, IsAskedBy};
@@ -10,24 +10,22 @@ ghost use Rattle.vm_code.specs.Listing.{listing_from};
 ghost use Rattle.rank_machine.specs.Ran.{is_mpi};
 ghost use Rattle.cluster.specs.Job.{IsJob};
 ghost use Rattle.ampi.specs.Answers.{Answers, Explains, IsUsage, reads, status_of};
-ghost use Rattle.ampi.specs.Sources.{AskForFile, IsLoaded, AreRun, IsShort, calls_mpi, source_limit};
+ghost use Rattle.ampi.specs.Sources.{AreLoaded, AreRun, AreFewAndShort, calls_mpi};
 ghost use Rattle.ampi.specs.Puts.{ToOut, puts};
 ghost use Rattle.ampi.specs.Yields.{Yields, Comes};
 
 use crate::Status;
+use crate::loading::{load_files, names_of};
 use crate::run::put_run;
-use crate::telling::{refuse_file, refuse_source, tell};
+use crate::telling::{refuse_source, tell};
 use am_base::Bytes;
-use am_io::{Files, LoadError, SayError, Sink};
+use am_io::{Files, SayError, Sink};
 use c_compile::{Cause, CompileError, Compiled, Refusal, answers_are_one, compile};
 use cluster::Job;
-use run_words::{Command, WordsError, code_name, one_command, read_words};
+use run_words::{Command, WordsError, code_files, files_are_few, one_command, read_words};
 use std::alloc::{AllocError, Global};
 use vm_code::{Code, Instr, listing};
 use w_model::End;
-
-/// The longest source, in bytes.
-const SOURCE_LIMIT: u64 = 1_048_576;
 
 /// The usage text.
 const USAGE: &[u8] =
@@ -57,85 +55,26 @@ pub fn ampi<F: Files, K: Sink, J: Sink>(
         → (K.faults out.new ≡ K.faults out.old) × (J.faults journal.new ≡ J.faults journal.old) }
 {
     one_command();
+    files_are_few();
     answers_are_one();
-    match code_name(words) {
-        Some(name) => show_code(alloc, name, files, out),
+    match code_files(words) {
+        Some(names) => show_code(alloc, names, files, out),
         None => match read_words(alloc, words) {
-            Ok(command) => run_file(alloc, &command, files, out, journal),
+            Ok(command) => run_files(alloc, &command, files, out, journal),
             Err(WordsError::Bad) => tell(out, USAGE, Status::Usage),
             Err(WordsError::Memory) => Status::NoMemory,
         },
     }
 }
 
-/// The text of a file, or the answer that tells why there is none.
-fn load_file<F: Files, K: Sink>(
-    alloc: Global,
-    name: &str,
-    files: &mut F,
-    out: &mut K,
-) -> Result<Bytes, Status>
-    ensures loaded { IfOk result (IsLoaded (F.held files.old) name.now) }
-    ensures quiet { OnOk result (K.written out.new ≡ K.written out.old) }
-    ensures told { IfErr result (λ status. (words : _) (journal : _) → AskForFile words name.now
-        → Answers words (reads (F.held files.old) (F.faults files.old) (F.faults files.new))
-        (puts (K.written out.old) (K.written out.new) journal journal) status) }
-    ensures read_fault { IfErr result (λ status. (file : ℕ) → status ≡ Status.ReadFault file → Rose (F.faults files.old) (F.faults files.new)) }
-    ensures write_fault { IfErr result (λ status. status ≡ Status.WriteFault → Rose (K.faults out.old) (K.faults out.new)) }
-    ensures kept { (result ≡ Err Status.WriteFault → ⊥) → K.faults out.new ≡ K.faults out.old }
-{
-    match files.load(alloc, name, SOURCE_LIMIT) {
-        Ok(text) if text.len() as u64 > SOURCE_LIMIT => {
-            Err(refuse_file(
-                alloc,
-                out,
-                b"ampi: ",
-                name,
-                b" is too long\n",
-                Status::TooLong { file: 0 },
-            ))
-        }
-        Ok(text) => Ok(Bytes::from_vec(text)),
-        Err(LoadError::Failed) => {
-            Err(refuse_file(
-                alloc,
-                out,
-                b"ampi: cannot read ",
-                name,
-                b"\n",
-                Status::ReadFault { file: 0 },
-            ))
-        }
-        Err(LoadError::Memory) => Err(Status::NoMemory),
-    }
-}
-
-/// The names and the texts of files, by their numbers.
-#[derive(Drop)]
-struct Given {
-    names: Vec<Bytes>,
-    texts: Vec<Bytes>,
-}
-
-/// One file, with its text.
-fn given_of(alloc: Global, name: &[u8], text: Bytes) -> Result<Given, AllocError>
-    ensures names { IfOk result (λ given. given.names.items ≡ name.now ∷ []) }
-    ensures texts { IfOk result (λ given. given.texts.items ≡ text ∷ []) }
-{
-    let mut names = Vec::new(alloc);
-    names.push(Bytes::from_slice(alloc, name)?)?;
-    let mut texts = Vec::new(alloc);
-    texts.push(text)?;
-    Ok(Given { names, texts })
-}
-
-fn run_file<F: Files, K: Sink, J: Sink>(
+fn run_files<F: Files, K: Sink, J: Sink>(
     alloc: Global,
     command: &Command,
     files: &mut F,
     out: &mut K,
     journal: &mut J,
 ) -> Status
+    requires some { length command.now.files.items ≤ 16 }
     requires few { command.now.ranks ≤ 256 }
     requires bounded { command.now.ticks ≤ 16000000 }
     ensures answers { (words : _) → IsAskedBy words command.now
@@ -147,24 +86,24 @@ fn run_file<F: Files, K: Sink, J: Sink>(
     ensures kept { (result ≡ Status.WriteFault → ⊥)
         → (K.faults out.new ≡ K.faults out.old) × (J.faults journal.new ≡ J.faults journal.old) }
 {
-    match load_file(alloc, command.file.as_str(), files, out) {
-        Ok(text) => run_text(alloc, command, text, out, journal),
+    match load_files(alloc, command.files.as_slice(), files, out) {
+        Ok(texts) => run_texts(alloc, command, texts.as_slice(), out, journal),
         Err(status) => status,
     }
 }
 
-fn run_text<K: Sink, J: Sink>(
+fn run_texts<K: Sink, J: Sink>(
     alloc: Global,
     command: &Command,
-    text: Bytes,
+    texts: &[Bytes],
     out: &mut K,
     journal: &mut J,
 ) -> Status
     requires few { command.now.ranks ≤ 256 }
     requires bounded { command.now.ticks ≤ 16000000 }
-    requires short { length text ≤ source_limit }
+    requires short { AreFewAndShort texts.now }
     ensures answers { (words : _) (r : _) → IsAskedBy words command.now
-        → IsLoaded r.held (string_bytes command.now.file) text → Answers words r
+        → AreLoaded r.held (map string_bytes command.now.files.items) texts.now → Answers words r
         (puts (K.written out.old) (K.written out.new) (J.written journal.old) (J.written journal.new)) result }
     ensures no_read_fault { (file : ℕ) → result ≡ Status.ReadFault file → ⊥ }
     ensures write_fault { result ≡ Status.WriteFault
@@ -172,25 +111,25 @@ fn run_text<K: Sink, J: Sink>(
     ensures kept { (result ≡ Status.WriteFault → ⊥)
         → (K.faults out.new ≡ K.faults out.old) × (J.faults journal.new ≡ J.faults journal.old) }
 {
-    match given_of(alloc, command.file.as_bytes(), text) {
-        Ok(given) => run_given(alloc, command, &given, out, journal),
+    match names_of(alloc, command.files.as_slice()) {
+        Ok(names) => run_named(alloc, command, names.as_slice(), texts, out, journal),
         Err(AllocError) => Status::NoMemory,
     }
 }
 
-fn run_given<K: Sink, J: Sink>(
+fn run_named<K: Sink, J: Sink>(
     alloc: Global,
     command: &Command,
-    given: &Given,
+    names: &[Bytes],
+    texts: &[Bytes],
     out: &mut K,
     journal: &mut J,
 ) -> Status
     requires few { command.now.ranks ≤ 256 }
     requires bounded { command.now.ticks ≤ 16000000 }
-    requires named { given.now.names.items ≡ string_bytes command.now.file ∷ [] }
-    requires short { IsShort given.now.texts.items }
-    ensures answers { (words : _) (r : _) (text : _) → IsAskedBy words command.now
-        → IsLoaded r.held (string_bytes command.now.file) text → given.now.texts.items ≡ text ∷ [] → Answers words r
+    requires named { names.now ≡ map string_bytes command.now.files.items }
+    requires short { AreFewAndShort texts.now }
+    ensures answers { (words : _) (r : _) → IsAskedBy words command.now → AreLoaded r.held names.now texts.now → Answers words r
         (puts (K.written out.old) (K.written out.new) (J.written journal.old) (J.written journal.new)) result }
     ensures no_read_fault { (file : ℕ) → result ≡ Status.ReadFault file → ⊥ }
     ensures write_fault { result ≡ Status.WriteFault
@@ -198,18 +137,9 @@ fn run_given<K: Sink, J: Sink>(
     ensures kept { (result ≡ Status.WriteFault → ⊥)
         → (K.faults out.new ≡ K.faults out.old) × (J.faults journal.new ≡ J.faults journal.old) }
 {
-    match compile(alloc, given.texts.as_slice()) {
-        Ok(compiled) => run_compiled(
-            alloc,
-            command,
-            given.names.as_slice(),
-            &compiled,
-            out,
-            journal,
-        ),
-        Err(CompileError::Refused(refusal)) => {
-            refuse_source(alloc, out, given.names.as_slice(), refusal)
-        }
+    match compile(alloc, texts) {
+        Ok(compiled) => run_compiled(alloc, command, names, &compiled, out, journal),
+        Err(CompileError::Refused(refusal)) => refuse_source(alloc, out, names, refusal),
         Err(CompileError::Memory) => Status::NoMemory,
     }
 }
@@ -225,11 +155,11 @@ fn run_compiled<K: Sink, J: Sink>(
 ) -> Status
     requires few { command.now.ranks ≤ 256 }
     requires bounded { command.now.ticks ≤ 16000000 }
-    requires named { names.now ≡ string_bytes command.now.file ∷ [] }
+    requires named { names.now ≡ map string_bytes command.now.files.items }
     requires segment { SegmentOf compiled.now.program compiled.now.segment }
     requires made { IsMade compiled.now.code compiled.now.program compiled.now.segment }
-    ensures answers { (words : _) (r : _) (text : _) → IsAskedBy words command.now
-        → IsLoaded r.held (string_bytes command.now.file) text → IsCompiled (text ∷ []) compiled.now → Answers words r
+    ensures answers { (words : _) (r : _) (texts : _) → IsAskedBy words command.now
+        → AreLoaded r.held names.now texts → IsCompiled texts compiled.now → Answers words r
         (puts (K.written out.old) (K.written out.new) (J.written journal.old) (J.written journal.new)) result }
     ensures no_read_fault { (file : ℕ) → result ≡ Status.ReadFault file → ⊥ }
     ensures write_fault { result ≡ Status.WriteFault
@@ -279,10 +209,10 @@ fn run_job<K: Sink, J: Sink>(
 ) -> Status
     requires few { command.now.ranks ≤ 256 }
     requires bounded { command.now.ticks ≤ 16000000 }
-    requires named { names.now ≡ string_bytes command.now.file ∷ [] }
+    requires named { names.now ≡ map string_bytes command.now.files.items }
     requires job { IsJob compiled.now.program compiled.now.segment compiled.now.code }
-    ensures answers { (words : _) (r : _) (text : _) → IsAskedBy words command.now
-        → IsLoaded r.held (string_bytes command.now.file) text → AreRun (text ∷ []) compiled.now → Answers words r
+    ensures answers { (words : _) (r : _) (texts : _) → IsAskedBy words command.now
+        → AreLoaded r.held names.now texts → AreRun texts compiled.now → Answers words r
         (puts (K.written out.old) (K.written out.new) (J.written journal.old) (J.written journal.new)) result }
     ensures no_read_fault { (file : ℕ) → result ≡ Status.ReadFault file → ⊥ }
     ensures write_fault { result ≡ Status.WriteFault
@@ -319,49 +249,53 @@ fn status_of(end: End) -> Status
     }
 }
 
-/// Puts the listing of a file's code.
-fn show_code<F: Files, K: Sink>(alloc: Global, name: &str, files: &mut F, out: &mut K) -> Status
-    ensures answers { (words : _) (journal : _) → AskForCode words name.now
+/// Puts the listing of the code of the program in files.
+fn show_code<F: Files, K: Sink>(
+    alloc: Global,
+    names: &[String],
+    files: &mut F,
+    out: &mut K,
+) -> Status
+    requires some { length names.now ≤ 16 }
+    ensures answers { (words : _) (journal : _) → AskForCode words (map string_bytes names.now)
         → Answers words (reads (F.held files.old) (F.faults files.old) (F.faults files.new))
         (puts (K.written out.old) (K.written out.new) journal journal) result }
     ensures read_fault { (file : ℕ) → result ≡ Status.ReadFault file → Rose (F.faults files.old) (F.faults files.new) }
     ensures write_fault { result ≡ Status.WriteFault → Rose (K.faults out.old) (K.faults out.new) }
     ensures kept { (result ≡ Status.WriteFault → ⊥) → K.faults out.new ≡ K.faults out.old }
 {
-    match load_file(alloc, name, files, out) {
-        Ok(text) => show_text(alloc, name, text, out),
+    match load_files(alloc, names, files, out) {
+        Ok(texts) => show_texts(alloc, names, texts.as_slice(), out),
         Err(status) => status,
     }
 }
 
-fn show_text<K: Sink>(alloc: Global, name: &str, text: Bytes, out: &mut K) -> Status
-    requires short { length text ≤ source_limit }
-    ensures answers { (words : _) (r : _) (journal : _) → AskForCode words name.now → IsLoaded r.held name.now text
+fn show_texts<K: Sink>(alloc: Global, names: &[String], texts: &[Bytes], out: &mut K) -> Status
+    requires short { AreFewAndShort texts.now }
+    ensures answers { (words : _) (r : _) (journal : _) → AskForCode words (map string_bytes names.now)
+        → AreLoaded r.held (map string_bytes names.now) texts.now
         → Answers words r (puts (K.written out.old) (K.written out.new) journal journal) result }
     ensures no_read_fault { (file : ℕ) → result ≡ Status.ReadFault file → ⊥ }
     ensures write_fault { result ≡ Status.WriteFault → Rose (K.faults out.old) (K.faults out.new) }
     ensures kept { (result ≡ Status.WriteFault → ⊥) → K.faults out.new ≡ K.faults out.old }
 {
-    match given_of(alloc, name.as_bytes(), text) {
-        Ok(given) => show_given(alloc, &given, out),
+    match names_of(alloc, names) {
+        Ok(names) => show_named(alloc, names.as_slice(), texts, out),
         Err(AllocError) => Status::NoMemory,
     }
 }
 
-fn show_given<K: Sink>(alloc: Global, given: &Given, out: &mut K) -> Status
-    requires short { IsShort given.now.texts.items }
-    ensures answers { (words : _) (r : _) (journal : _) (name : _) (text : _) → AskForCode words name → IsLoaded r.held name text
-        → given.now.names.items ≡ name ∷ [] → given.now.texts.items ≡ text ∷ []
+fn show_named<K: Sink>(alloc: Global, names: &[Bytes], texts: &[Bytes], out: &mut K) -> Status
+    requires short { AreFewAndShort texts.now }
+    ensures answers { (words : _) (r : _) (journal : _) → AskForCode words names.now → AreLoaded r.held names.now texts.now
         → Answers words r (puts (K.written out.old) (K.written out.new) journal journal) result }
     ensures no_read_fault { (file : ℕ) → result ≡ Status.ReadFault file → ⊥ }
     ensures write_fault { result ≡ Status.WriteFault → Rose (K.faults out.old) (K.faults out.new) }
     ensures kept { (result ≡ Status.WriteFault → ⊥) → K.faults out.new ≡ K.faults out.old }
 {
-    match compile(alloc, given.texts.as_slice()) {
+    match compile(alloc, texts) {
         Ok(compiled) => show_listing(alloc, &compiled.code, out),
-        Err(CompileError::Refused(refusal)) => {
-            refuse_source(alloc, out, given.names.as_slice(), refusal)
-        }
+        Err(CompileError::Refused(refusal)) => refuse_source(alloc, out, names, refusal),
         Err(CompileError::Memory) => Status::NoMemory,
     }
 }

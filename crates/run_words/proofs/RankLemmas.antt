@@ -1,5 +1,5 @@
 -- Accepted words ask for 1 to 256 ranks, and for 16,000,000 ticks at most.
-use Rattle.std.proofs.Common.{ℕ, ◌≡◌, ◌≤◌, List, [], ◌∷◌, refl, sym, subst, arith}
+use Rattle.std.proofs.Common.{ℕ, ◌≡◌, ◌≤◌, List, [], ◌∷◌, refl, subst, arith}
 use Rattle.std.specs.List.{AllByRecursion}
 use Rattle.run_words.specs.Words.{Part, Source, Ranks, Ticks, Journal, ranks_in, ticks_in, IsWellFormed, number_of, Chooses, Asked, AskForRun}
 

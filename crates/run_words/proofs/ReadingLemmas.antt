@@ -1,19 +1,21 @@
 -- Reading from the first word on finds a run just where the words ask for it.
-use Rattle.std.proofs.Common.{◌≡◌, ◌==◌, length, not, Bool, ℕ, inl, inr, true, false, List, [], ◌∷◌, Option, None, Some, refl, sym, ap, subst, ◌∙◌, arith}
-use Rattle.std.proofs.lemmas.Bool.{cases_Bool, and_parts, and_from, and_left, leb-true, le-leb, ne_eqb, false≢true, cond-true, cond-false}
+use Rattle.std.proofs.Common.{◌≡◌, leb, ◌+◌, ◌<◌, ◌≤◌, length, not, Bool, ℕ, inl, inr, true, false, List, [], ◌∷◌, Option, None, Some, refl, sym, ap, subst, ◌∙◌, arith}
+use Rattle.std.proofs.lemmas.Bool.{cases_Bool, and_parts, and_from, and_left, leb-true, le-leb, ltb-true, lt-ltb, ne_eqb, false≢true, cond-true, cond-false}
 use Rattle.std.proofs.lemmas.Bool.Decides.{nat_tests}
+use Rattle.std.proofs.lemmas.List.{length-map}
+use Rattle.std.proofs.lemmas.List.Folds.{list_all-map}
 use Rattle.std.proofs.lemmas.Option.{option_and_then_some, cond_some, same_Some, none-some}
 use Rattle.std.proofs.lemmas.Slice.Eq.{bytes_eq-Decides}
 use Rattle.std.specs.Prelude.{is_none, is_some, option_and_then, codes, unwrap_or, map, string_bytes, String, IfSome, IfNone}
 use Rattle.std.specs.Borrow.{Bor}
-use Rattle.std.specs.Option.{option_map, option_copied}
+use Rattle.std.specs.Option.{option_copied}
 use Rattle.std.specs.Global.{Global}
 use Rattle.std.specs.List.{flat_map, list_all, AllByRecursion}
 use Rattle.std.specs.Str.{bytes_eq}
 use Rattle.run_words.specs.Asks.{IsJournalOf}
 use Rattle.run_words.specs.Words.{Part, words_of, IsPlain, IsNumber, IsWellFormed, is_digit, number_of, sources_in, ranks_in, ticks_in, journals_in, Chooses, Asked, AskForRun, AskForCode}
 use Rattle.run_words.specs.Words.Part.{Source, Ranks, Ticks, Journal}
-use Rattle.run_words.specs.steps.Reading.{Said, nothing_said, is_number, is_plain, is_ranks_value, is_ticks_value, with_file, with_ranks, with_ticks, with_journal, said_with, asked_by, asked_of}
+use Rattle.run_words.specs.steps.Reading.{Said, nothing_said, is_number, is_plain, is_ranks_value, is_ticks_value, with_file, with_ranks, with_ticks, with_journal, said_with, has_value, files_in, asked_by, asked_of, are_files}
 
 -- the tests of one word
 
@@ -75,7 +77,8 @@ Adds value (word ∷ words) before after = (before ≡ None) × Adds value words
 
 -- The parts say what is new.
 record Fills (parts : List Part) (before after : Said) : Type 0 where
-  file : Adds (λ name. name) (sources_in parts) before.file after.file
+  files : after.files ≡ before.files + length (sources_in parts)
+  few : before.files ≤ 16 → after.files ≤ 16
   ranks : Adds number_of (ranks_in parts) before.ranks after.ranks
   ticks : Adds number_of (ticks_in parts) before.ticks after.ticks
   journal : Adds (λ name. name) (journals_in parts) before.journal after.journal
@@ -91,6 +94,9 @@ nothing_was : {X : Type 0} (o : Option X) → is_none o ≡ true → o ≡ None
 nothing_was None e = refl
 nothing_was (Some x) e = absurd (false≢true e)
 
+next-within : (n : ℕ) → n < 16 → n + 1 ≤ 16
+next-within n below = omega (arith, below)
+
 -- one part more in front
 
 reads_file : (name : List ℕ) (words : List (List ℕ)) (before middle after : Said)
@@ -104,7 +110,7 @@ reads_file name words before middle after e r =
       parts = Source name ∷ r.parts;
       spelled = ap (λ rest. name ∷ rest) r.spelled;
       well_formed = (IsPlain-from_test name tests.0, r.well_formed);
-      fills = record { file = (nothing_was before.file tests.1, fills.file); ranks = fills.ranks; ticks = fills.ticks; journal = fills.journal };
+      fills = record { files = omega (arith, fills.files); few = λ within. fills.few (next-within before.files (ltb-true before.files 16 tests.1)); ranks = fills.ranks; ticks = fills.ticks; journal = fills.journal };
     }
 
 reads_ranks : (value : List ℕ) (words : List (List ℕ)) (before middle after : Said)
@@ -118,7 +124,7 @@ reads_ranks value words before middle after e r =
       parts = Ranks value ∷ r.parts;
       spelled = ap (λ rest. codes "--ranks" ∷ value ∷ rest) r.spelled;
       well_formed = (IsWellFormed-from_test value tests.1, r.well_formed);
-      fills = record { file = fills.file; ranks = (nothing_was before.ranks tests.0, fills.ranks); ticks = fills.ticks; journal = fills.journal };
+      fills = record { files = fills.files; few = fills.few; ranks = (nothing_was before.ranks tests.0, fills.ranks); ticks = fills.ticks; journal = fills.journal };
     }
 
 reads_ticks : (value : List ℕ) (words : List (List ℕ)) (before middle after : Said)
@@ -132,7 +138,7 @@ reads_ticks value words before middle after e r =
       parts = Ticks value ∷ r.parts;
       spelled = ap (λ rest. codes "--ticks" ∷ value ∷ rest) r.spelled;
       well_formed = (ticks-from_test value tests.1, r.well_formed);
-      fills = record { file = fills.file; ranks = fills.ranks; ticks = (nothing_was before.ticks tests.0, fills.ticks); journal = fills.journal };
+      fills = record { files = fills.files; few = fills.few; ranks = fills.ranks; ticks = (nothing_was before.ticks tests.0, fills.ticks); journal = fills.journal };
     }
 
 reads_journal : (name : List ℕ) (words : List (List ℕ)) (before middle after : Said)
@@ -146,7 +152,7 @@ reads_journal name words before middle after e r =
       parts = Journal name ∷ r.parts;
       spelled = ap (λ rest. codes "--journal" ∷ name ∷ rest) r.spelled;
       well_formed = (IsPlain-from_test name tests.0, r.well_formed);
-      fills = record { file = fills.file; ranks = fills.ranks; ticks = fills.ticks; journal = (nothing_was before.journal tests.1, fills.journal) };
+      fills = record { files = fills.files; few = fills.few; ranks = fills.ranks; ticks = fills.ticks; journal = (nothing_was before.journal tests.1, fills.journal) };
     }
 
 reads_none : (said after : Said) → Some said ≡ Some after → Reads [] said after
@@ -157,7 +163,8 @@ reads_none said after e =
       spelled = refl;
       well_formed = tt;
       fills = record {
-        file = ap (λ (s : Said). s.file) same;
+        files = ap (λ (s : Said). s.files) same ∙ omega arith;
+        few = λ within. rw same within;
         ranks = ap (λ (s : Said). s.ranks) same;
         ticks = ap (λ (s : Said). s.ticks) same;
         journal = ap (λ (s : Said). s.journal) same;
@@ -239,56 +246,53 @@ said_with-plain : (word : List ℕ) (words : List (List ℕ)) (said : Said) → 
 said_with-plain word words said p =
     let no_option = plain_is_no_option word p in said_with-file word words said no_option.0 no_option.1 no_option.2
 
-same_said : (a b : Said) → a.file ≡ b.file → a.ranks ≡ b.ranks → a.ticks ≡ b.ticks → a.journal ≡ b.journal → a ≡ b
-same_said a b file ranks ticks journal = λ i. record { file = file i; ranks = ranks i; ticks = ticks i; journal = journal i }
+same_said : (a b : Said) → a.files ≡ b.files → a.ranks ≡ b.ranks → a.ticks ≡ b.ticks → a.journal ≡ b.journal → a ≡ b
+same_said a b files ranks ticks journal = λ i. record { files = files i; ranks = ranks i; ticks = ticks i; journal = journal i }
 
-same_asked : (a b : Asked) → a.file ≡ b.file → a.ranks ≡ b.ranks → a.ticks ≡ b.ticks → a.journal ≡ b.journal → a ≡ b
-same_asked a b file ranks ticks journal = λ i. record { file = file i; ranks = ranks i; ticks = ticks i; journal = journal i }
+same_asked : (a b : Asked) → a.files ≡ b.files → a.ranks ≡ b.ranks → a.ticks ≡ b.ticks → a.journal ≡ b.journal → a ≡ b
+same_asked a b files ranks ticks journal = λ i. record { files = files i; ranks = ranks i; ticks = ticks i; journal = journal i }
 
 -- what the parts say is what the reading says
 said_with-parts : (parts : List Part) (before after : Said) → AllByRecursion IsWellFormed parts → Fills parts before after
-    → said_with (flat_map words_of parts) before ≡ Some after
-said_with-parts [] before after p f = ap (λ (s : Said). Some s) (same_said before after (sym f.file) (sym f.ranks) (sym f.ticks) (sym f.journal))
-said_with-parts (Source name ∷ parts) before after p f =
+    → after.files ≤ 16 → said_with (flat_map words_of parts) before ≡ Some after
+said_with-parts [] before after p f few =
+    let none : before.files ≡ after.files = omega (arith, f.files) in
+    ap (λ (s : Said). Some s) (same_said before after none (sym f.ranks) (sym f.ticks) (sym f.journal))
+said_with-parts (Source name ∷ parts) before after p f few =
     let words = flat_map words_of parts in
-    let middle : Said = record before { file = Some name } in
+    let middle : Said = record before { files = before.files + 1 } in
+    let below : before.files < 16 = omega (arith, f.files, few) in
     let one : with_file before name ≡ Some middle =
-    cond-true _ _ _ (and_from _ _ (is_plain-from_IsPlain name p.0) (ap is_none f.file.0)) in
-    let fills : Fills parts middle after = record { file = f.file.1; ranks = f.ranks; ticks = f.ticks; journal = f.journal } in
-    said_with-plain name words before p.0 ∙ ap (option_and_then (said_with words)) one ∙ said_with-parts parts middle after p.1 fills
-said_with-parts (Ranks value ∷ parts) before after p f =
+    cond-true _ _ _ (and_from _ _ (is_plain-from_IsPlain name p.0) (lt-ltb before.files 16 below)) in
+    let fills : Fills parts middle after = record { files = omega (arith, f.files); few = λ within. few; ranks = f.ranks; ticks = f.ticks; journal = f.journal } in
+    said_with-plain name words before p.0 ∙ ap (option_and_then (said_with words)) one ∙ said_with-parts parts middle after p.1 fills few
+said_with-parts (Ranks value ∷ parts) before after p f few =
     let words = flat_map words_of parts in
     let middle : Said = record before { ranks = Some (number_of value) } in
     let one : with_ranks before value ≡ Some middle =
     cond-true _ _ _ (and_from _ _ (ap is_none f.ranks.0) (is_ranks_value-from_IsWellFormed value p.0)) in
-    let fills : Fills parts middle after = record { file = f.file; ranks = f.ranks.1; ticks = f.ticks; journal = f.journal } in
-    ap (option_and_then (said_with words)) one ∙ said_with-parts parts middle after p.1 fills
-said_with-parts (Ticks value ∷ parts) before after p f =
+    let fills : Fills parts middle after = record { files = f.files; few = f.few; ranks = f.ranks.1; ticks = f.ticks; journal = f.journal } in
+    ap (option_and_then (said_with words)) one ∙ said_with-parts parts middle after p.1 fills few
+said_with-parts (Ticks value ∷ parts) before after p f few =
     let words = flat_map words_of parts in
     let middle : Said = record before { ticks = Some (number_of value) } in
     let one : with_ticks before value ≡ Some middle =
     cond-true _ _ _ (and_from _ _ (ap is_none f.ticks.0) (is_ticks_value-from_IsWellFormed value p.0)) in
-    let fills : Fills parts middle after = record { file = f.file; ranks = f.ranks; ticks = f.ticks.1; journal = f.journal } in
-    ap (option_and_then (said_with words)) one ∙ said_with-parts parts middle after p.1 fills
-said_with-parts (Journal name ∷ parts) before after p f =
+    let fills : Fills parts middle after = record { files = f.files; few = f.few; ranks = f.ranks; ticks = f.ticks.1; journal = f.journal } in
+    ap (option_and_then (said_with words)) one ∙ said_with-parts parts middle after p.1 fills few
+said_with-parts (Journal name ∷ parts) before after p f few =
     let words = flat_map words_of parts in
     let middle : Said = record before { journal = Some name } in
     let one : with_journal before name ≡ Some middle =
     cond-true _ _ _ (and_from _ _ (is_plain-from_IsPlain name p.0) (ap is_none f.journal.0)) in
-    let fills : Fills parts middle after = record { file = f.file; ranks = f.ranks; ticks = f.ticks; journal = f.journal.1 } in
-    ap (option_and_then (said_with words)) one ∙ said_with-parts parts middle after p.1 fills
+    let fills : Fills parts middle after = record { files = f.files; few = f.few; ranks = f.ranks; ticks = f.ticks; journal = f.journal.1 } in
+    ap (option_and_then (said_with words)) one ∙ said_with-parts parts middle after p.1 fills few
 
 -- an option that stands once at most
 
 abbrev first_said : {X : Type 0} → (List ℕ → X) → List (List ℕ) → Option X
 first_said value [] = None
 first_said value (word ∷ words) = Some (value word)
-
-only_one : (names : List (List ℕ)) (said : Option (List ℕ)) (name : List ℕ)
-    → Adds (λ n. n) names None said → said ≡ Some name → names ≡ name ∷ []
-only_one [] said name a e = absurd (none-some name (sym a ∙ e))
-only_one (n ∷ []) said name a e = ap (λ x. x ∷ []) (same_Some n name (sym a.1 ∙ e))
-only_one (n ∷ m ∷ names) said name a e = absurd (none-some n (sym a.1.0))
 
 chosen : {X Y : Type 0} (value : List ℕ → X) (choice : Option X → Y) (words : List (List ℕ)) (said : Option X)
     → Adds value words None said → Chooses words (λ w. choice (Some (value w))) (choice None) (choice said)
@@ -303,27 +307,42 @@ Adds-chosen value choice [] c h = (refl, sym h)
 Adds-chosen value choice (w ∷ []) c h = ((refl, refl), sym h)
 Adds-chosen value choice (w ∷ v ∷ words) c h = absurd h
 
-asked_parts_of : (file : Option (List ℕ)) (ranks ticks : ℕ) (journal : Option (List ℕ)) (asked : Asked)
-    → option_map (λ name. record { file = name; ranks = ranks; ticks = ticks; journal = journal }) file ≡ Some asked
-    → (file ≡ Some asked.file) × (ranks ≡ asked.ranks) × (ticks ≡ asked.ticks) × (journal ≡ asked.journal)
-asked_parts_of None ranks ticks journal asked e = absurd (none-some asked e)
-asked_parts_of (Some name) ranks ticks journal asked e =
-    let same = same_Some _ _ e in (
-      ap (λ (a : Asked). Some a.file) same,
-      ap (λ (a : Asked). a.ranks) same,
-      ap (λ (a : Asked). a.ticks) same,
-      ap (λ (a : Asked). a.journal) same,
+asked_parts : (files : List (List ℕ)) (said : Said) (asked : Asked) → asked_by files said ≡ Some asked
+    → (0 < said.files) × (files ≡ asked.files) × (unwrap_or said.ranks 1 ≡ asked.ranks) × (unwrap_or said.ticks 1000000 ≡ asked.ticks)
+    × (said.journal ≡ asked.journal)
+asked_parts files said asked e =
+    let taken = cond_some _ _ _ e in (
+      ltb-true 0 said.files taken.0,
+      ap (λ (a : Asked). a.files) taken.1,
+      ap (λ (a : Asked). a.ranks) taken.1,
+      ap (λ (a : Asked). a.ticks) taken.1,
+      ap (λ (a : Asked). a.journal) taken.1,
     )
 
-asked_parts : (said : Said) (asked : Asked) → asked_by said ≡ Some asked
-    → (said.file ≡ Some asked.file) × (unwrap_or said.ranks 1 ≡ asked.ranks) × (unwrap_or said.ticks 1000000 ≡ asked.ticks) × (said.journal ≡ asked.journal)
-asked_parts said asked e = asked_parts_of said.file (unwrap_or said.ranks 1) (unwrap_or said.ticks 1000000) said.journal asked e
+-- the words that are neither options nor their values are the names of the sources
 
-asks : (words : List (List ℕ)) (said : Said) (asked : Asked) → said_with words nothing_said ≡ Some said → asked_by said ≡ Some asked
+files_in-file : (word : List ℕ) (words : List (List ℕ)) → has_value word ≡ false → files_in (word ∷ words) ≡ word ∷ files_in words
+files_in-file word [] none = cond-false _ _ _ none
+files_in-file word (value ∷ words) none = cond-false _ _ _ none
+
+plain_has_none : (word : List ℕ) → IsPlain word → has_value word ≡ false
+plain_has_none word p = let no_option = plain_is_no_option word p in rw (no_option.0, no_option.1, no_option.2) refl
+
+files_in-parts : (parts : List Part) → AllByRecursion IsWellFormed parts → files_in (flat_map words_of parts) ≡ sources_in parts
+files_in-parts [] p = refl
+files_in-parts (Source name ∷ parts) p =
+    files_in-file name (flat_map words_of parts) (plain_has_none name p.0) ∙ ap (λ names. name ∷ names) (files_in-parts parts p.1)
+files_in-parts (Ranks value ∷ parts) p = files_in-parts parts p.1
+files_in-parts (Ticks value ∷ parts) p = files_in-parts parts p.1
+files_in-parts (Journal name ∷ parts) p = files_in-parts parts p.1
+
+asks : (words : List (List ℕ)) (said : Said) (asked : Asked) → said_with words nothing_said ≡ Some said → asked_by (files_in words) said ≡ Some asked
     → AskForRun (codes "run" ∷ words) asked
 asks words said asked one rest =
     let r = Reads-from_said words nothing_said said one in
-    let same = asked_parts said asked rest in
+    let same = asked_parts (files_in words) said asked rest in
+    let named : sources_in r.parts ≡ asked.files = sym (ap files_in r.spelled ∙ files_in-parts r.parts r.well_formed) ∙ same.1 in
+    let many : length (sources_in r.parts) ≡ length asked.files = ap length named in
     let P : ℕ → Type 0 = Chooses (ranks_in r.parts) number_of 1 in
     let T : ℕ → Type 0 = Chooses (ticks_in r.parts) number_of 1000000 in
     let Q : Option (List ℕ) → Type 0 = Chooses (journals_in r.parts) Some None in
@@ -331,10 +350,11 @@ asks words said asked one rest =
       parts = r.parts;
       spelled = ap (λ ws. codes "run" ∷ ws) r.spelled;
       well_formed = r.well_formed;
-      one_source = only_one _ _ _ r.fills.file same.0;
-      ranks = subst P same.1 (chosen number_of (λ o. unwrap_or o 1) (ranks_in r.parts) said.ranks r.fills.ranks);
-      ticks = subst T same.2 (chosen number_of (λ o. unwrap_or o 1000000) (ticks_in r.parts) said.ticks r.fills.ticks);
-      journal = subst Q same.3 (chosen (λ n. n) (λ o. o) (journals_in r.parts) said.journal r.fills.journal);
+      files = named;
+      some_files = (omega (arith, same.0, r.fills.files, many), omega (arith, r.fills.few (omega arith), r.fills.files, many));
+      ranks = subst P same.2 (chosen number_of (λ o. unwrap_or o 1) (ranks_in r.parts) said.ranks r.fills.ranks);
+      ticks = subst T same.3 (chosen number_of (λ o. unwrap_or o 1000000) (ticks_in r.parts) said.ticks r.fills.ticks);
+      journal = subst Q same.4 (chosen (λ n. n) (λ o. o) (journals_in r.parts) said.journal r.fills.journal);
     }
 
 pub AskForRun-from_asked : (words : List (List ℕ)) (asked : Asked) → asked_of words ≡ Some asked → AskForRun words asked
@@ -345,7 +365,7 @@ AskForRun-from_asked (word ∷ words) asked e =
           let same : word ≡ codes "run" = (bytes_eq-Decides word (codes "run")).0 is_run in
           let P : List ℕ → Type 0 = λ w. AskForRun (w ∷ words) asked in
           subst P (sym same)
-          (option_and_then_some asked_by (said_with words nothing_said) asked (sym (cond-true _ _ _ is_run) ∙ e)
+          (option_and_then_some (asked_by (files_in words)) (said_with words nothing_said) asked (sym (cond-true _ _ _ is_run) ∙ e)
           (λ said one rest. asks words said asked one rest))
       | inr not_run ↦ absurd (none-some asked (sym (cond-false _ _ _ not_run) ∙ e))
     ]
@@ -357,18 +377,21 @@ asked_of-from_AskForRun words asked a =
     let ticks = Adds-chosen number_of (λ o. unwrap_or o 1000000) (ticks_in a.parts) asked.ticks a.ticks in
     let journal = Adds-chosen (λ n. n) (λ o. o) (journals_in a.parts) asked.journal a.journal in
     let said : Said = record {
-      file = Some asked.file;
+      files = length (sources_in a.parts);
       ranks = first_said number_of (ranks_in a.parts);
       ticks = first_said number_of (ticks_in a.parts);
       journal = first_said (λ n. n) (journals_in a.parts);
     } in
-    let P : List (List ℕ) → Type 0 = λ names. Adds (λ n. n) names None (Some asked.file) in
+    let many : length (sources_in a.parts) ≡ length asked.files = ap length a.files in
+    let few : said.files ≤ 16 = omega (arith, many, a.some_files.1) in
+    let some : 0 < said.files = omega (arith, many, a.some_files.0) in
     let fills : Fills a.parts nothing_said said =
-    record { file = subst P (sym a.one_source) (refl, refl); ranks = ranks.0; ticks = ticks.0; journal = journal.0 } in
-    let one : said_with spelled nothing_said ≡ Some said = said_with-parts a.parts nothing_said said a.well_formed fills in
-    let asks_for : Asked = record { file = asked.file; ranks = unwrap_or said.ranks 1; ticks = unwrap_or said.ticks 1000000; journal = said.journal } in
-    let same : asks_for ≡ asked = same_asked asks_for asked refl ranks.1 ticks.1 journal.1 in
-    ap asked_of a.spelled ∙ ap (option_and_then asked_by) one ∙ ap (λ (x : Asked). Some x) same
+    record { files = omega arith; few = λ within. few; ranks = ranks.0; ticks = ticks.0; journal = journal.0 } in
+    let one : said_with spelled nothing_said ≡ Some said = said_with-parts a.parts nothing_said said a.well_formed fills few in
+    let asks_for : Asked = record { files = files_in spelled; ranks = unwrap_or said.ranks 1; ticks = unwrap_or said.ticks 1000000; journal = said.journal } in
+    let same : asks_for ≡ asked = same_asked asks_for asked (files_in-parts a.parts a.well_formed ∙ a.files) ranks.1 ticks.1 journal.1 in
+    ap asked_of a.spelled ∙ ap (option_and_then (asked_by (files_in spelled))) one ∙ cond-true _ _ _ (lt-ltb 0 said.files some)
+    ∙ ap (λ (x : Asked). Some x) same
 
 pub one_run : (words : List (List ℕ)) (a b : Asked) → AskForRun words a → AskForRun words b → a ≡ b
 one_run words a b p q = same_Some a b (sym (asked_of-from_AskForRun words a p) ∙ asked_of-from_AskForRun words b q)
@@ -411,13 +434,48 @@ not-false false e = cc
 pub same-word : (a b : List ℕ) → false ≡ not (bytes_eq a b) → a ≡ b
 same-word a b e = (bytes_eq-Decides a b).0 (not-false (bytes_eq a b) e)
 
--- two words, the first of which is `code`
-pub asks-code : {S : Type 0} (f : S → List ℕ) (words rest more : List S) (first name : S) (file : List ℕ) → words ≡ first ∷ rest → rest ≡ name ∷ more
-    → f first ≡ codes "code" → true ≡ is_plain file → true ≡ (length more == 0) → file ≡ f name → AskForCode (map f words) file
-asks-code f words rest [] first name file words_is rest_is code plain none file_is = record {
-  spelled = ap (map f) (words_is ∙ ap (λ ws. first ∷ ws) rest_is) ∙ ap (λ w. w ∷ f name ∷ []) code ∙ ap (λ n. codes "code" ∷ n ∷ []) (sym file_is);
-  plain = IsPlain-from_test file (sym plain);
-}
-asks-code f words rest (m ∷ more) first name file words_is rest_is code plain none file_is =
-    let no : ⊥ = grind (arith, nat_tests) in
-    absurd no
+-- the word `code`, and names of files behind it
+
+all_plain : (names : List (List ℕ)) → list_all is_plain names ≡ true → AllByRecursion IsPlain names
+all_plain [] e = tt
+all_plain (name ∷ names) e =
+    let parts = and_parts (is_plain name) (list_all is_plain names) e in
+    (IsPlain-from_test name parts.0, all_plain names parts.1)
+
+list_all-plain : (names : List (List ℕ)) → AllByRecursion IsPlain names → list_all is_plain names ≡ true
+list_all-plain [] p = refl
+list_all-plain (name ∷ names) p = and_from (is_plain name) (list_all is_plain names) (is_plain-from_IsPlain name p.0) (list_all-plain names p.1)
+
+pub asks-code : (words : List (List ℕ)) (first : List ℕ) (files : List (List ℕ)) → words ≡ first ∷ files → first ≡ codes "code"
+    → are_files files ≡ true → AskForCode words files
+asks-code words first files words_are code are =
+    let tests = and_parts _ _ are in
+    let sizes = and_parts _ _ tests.0 in
+    record {
+      spelled = words_are ∙ ap (λ w. w ∷ files) code;
+      plain = all_plain files tests.1;
+      some_files = (leb-true 1 (length files) sizes.0, leb-true (length files) 16 sizes.1);
+    }
+
+pub code-files : (words files : List (List ℕ)) → AskForCode words files → are_files files ≡ true
+code-files words files asks =
+    and_from _ _ (and_from _ _ (le-leb 1 (length files) asks.some_files.0) (le-leb (length files) 16 asks.some_files.1)) (list_all-plain files asks.plain)
+
+-- the same of words that are texts
+
+pub are-files : {S : Type 0} (f : S → List ℕ) (names : List S) (all : Bool) → leb 1 (length names) ≡ true → leb (length names) 16 ≡ true
+    → all ≡ list_all (λ s. is_plain (f s)) names → all ≡ are_files (map f names)
+are-files f names all some few e =
+    let is : all ≡ list_all is_plain (map f names) = e ∙ sym (list_all-map is_plain f names) in
+    rw (length-map names f, some, few) is
+
+pub asks-code-texts : {S : Type 0} (f : S → List ℕ) (words files : List S) (first : S) → words ≡ first ∷ files → f first ≡ codes "code"
+    → are_files (map f files) ≡ true → AskForCode (map f words) (map f files)
+asks-code-texts f words files first words_are code are = asks-code (map f words) (f first) (map f files) (ap (map f) words_are) code are
+
+pub no-code-texts : {S : Type 0} (f : S → List ℕ) (words files : List S) (first : S) → words ≡ first ∷ files
+    → are_files (map f files) ≡ false → (other : List (List ℕ)) → AskForCode (map f words) other → ⊥
+no-code-texts f words files first words_are none other asks =
+    let same : f first ∷ map f files ≡ codes "code" ∷ other = sym (ap (map f) words_are) ∙ asks.spelled in
+    let others : map f files ≡ other = cc in
+    false≢true (sym none ∙ ap are_files others ∙ code-files (map f words) other asks)

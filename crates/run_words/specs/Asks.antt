@@ -12,11 +12,11 @@ bytes_of_words words = map string_bytes words.items
 abbrev pub AreAccepted : List (List ℕ) → Type 0
 AreAccepted words = (asked : Asked) × AskForRun words asked
 
--- The words ask for a run with the command's file, ranks and ticks.
+-- The words ask for a run with the command's files, ranks and ticks.
 pub record IsAskedBy (words : List (List ℕ)) (command : Command) : Type 0 where
   pub asked : Asked
   pub asks : AskForRun words asked
-  pub file : string_bytes command.file ≡ asked.file
+  pub files : map string_bytes command.files.items ≡ asked.files
   pub ranks : command.ranks ≡ asked.ranks
   pub ticks : command.ticks ≡ asked.ticks
 

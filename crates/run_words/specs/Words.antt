@@ -78,10 +78,14 @@ Chooses [] value default chosen = chosen ≡ default
 Chooses (word ∷ []) value default chosen = chosen ≡ value word
 Chooses (word ∷ more ∷ words) value default chosen = ⊥
 
--- What accepted words that begin with `run` ask for: the source's file, the number of ranks, the bound on each rank's
--- ticks, and the journal's file.
+-- 1 to 16 files
+abbrev pub AreSomeFiles : List (List ℕ) → Type 0
+AreSomeFiles files = (1 ≤ length files) × (length files ≤ 16)
+
+-- What accepted words that begin with `run` ask for: the files of the program in the order in which they stand, the number of
+-- ranks, the bound on each rank's ticks, and the journal's file.
 pub record Asked : Type 0 where
-  pub file : List ℕ
+  pub files : List (List ℕ)
   pub ranks : ℕ
   pub ticks : ℕ
   pub journal : Option (List ℕ)
@@ -91,12 +95,14 @@ pub record AskForRun (words : List (List ℕ)) (asked : Asked) : Type 0 where
   pub parts : List Part
   pub spelled : words ≡ codes "run" ∷ flat_map words_of parts
   pub well_formed : AllByRecursion IsWellFormed parts
-  pub one_source : sources_in parts ≡ asked.file ∷ []
+  pub files : sources_in parts ≡ asked.files
+  pub some_files : AreSomeFiles asked.files
   pub ranks : Chooses (ranks_in parts) number_of 1 asked.ranks
   pub ticks : Chooses (ticks_in parts) number_of 1000000 asked.ticks
   pub journal : Chooses (journals_in parts) Some None asked.journal
 
--- The words ask for the listing of the code of this file.
-pub record AskForCode (words : List (List ℕ)) (file : List ℕ) : Type 0 where
-  pub spelled : words ≡ codes "code" ∷ file ∷ []
-  pub plain : IsPlain file
+-- The words ask for the listing of the code of the program in these files.
+pub record AskForCode (words : List (List ℕ)) (files : List (List ℕ)) : Type 0 where
+  pub spelled : words ≡ codes "code" ∷ files
+  pub plain : AllByRecursion IsPlain files
+  pub some_files : AreSomeFiles files

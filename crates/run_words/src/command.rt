@@ -1,16 +1,17 @@
 //! What accepted words ask for.
-ghost use Rattle.std.specs.Prelude.{◌≡◌, ◌≤◌, None, Some, IfOk, IfSome, IfNone, IsErrOf};
+ghost use Rattle.std.specs.Prelude.{◌≡◌, ◌≤◌, length, map, string_bytes, None, Some, IfOk, IfSome, IfNone, IsErrOf};
 ghost use Rattle.run_words.specs.Words.{AskForRun, AskForCode};
 ghost use Rattle.run_words.specs.Asks.{AreAccepted, bytes_of_words, IsAskedBy, IsJournalOf};
 
-use crate::reading::{is_plain, run_of};
+use crate::reading::{are_files, files_in, run_of};
 use std::alloc::{AllocError, Global};
 use thiserror::Error;
 
 /// What accepted words ask for.
 #[derive(Debug, Drop)]
 pub struct Command {
-    pub file: String,
+    /// The names of its files, in order.
+    pub files: Vec<String>,
     pub ranks: u16,
     /// The bound on each rank's ticks.
     pub ticks: u64,
@@ -19,7 +20,7 @@ pub struct Command {
 /// Why no command was read.
 #[derive(Debug, Drop, Error)]
 pub enum WordsError {
-    #[error("usage: ampi run [--ranks N] [--ticks N] [--journal FILE] FILE")]
+    #[error("usage: ampi run [--ranks N] [--ticks N] [--journal FILE] FILE...")]
     Bad,
     #[error("out of memory")]
     Memory,
@@ -36,7 +37,7 @@ impl From<AllocError> for WordsError {
     }
 }
 
-/// Reads the words of a command line, without the program's name. Only the file's name takes memory.
+/// Reads the words of a command line, without the program's name. Only the files' names take memory.
 pub fn read_words(alloc: Global, words: &Vec<String>) -> Result<Command, WordsError>
     ensures accepted { IfOk result (IsAskedBy (bytes_of_words words.now)) }
     ensures bad { IsErrOf result WordsError.Bad → (asked : _) → AskForRun (bytes_of_words words.now) asked → ⊥ }
@@ -44,7 +45,7 @@ pub fn read_words(alloc: Global, words: &Vec<String>) -> Result<Command, WordsEr
 {
     let run = run_of(words).ok_or(WordsError::Bad)?;
     Ok(Command {
-        file: String::from_str(alloc, run.file)?,
+        files: files_in(alloc, run.parts)?,
         ranks: run.ranks,
         ticks: run.ticks,
     })
@@ -58,29 +59,37 @@ pub fn journal_name(words: &Vec<String>) -> Option<&str>
     run_of(words)?.journal
 }
 
-/// The file of which accepted words want the listing, and `None` for other words. It takes no memory.
-pub fn code_name(words: &Vec<String>) -> Option<&str>
-    ensures some { IfSome result (λ name. AskForCode (bytes_of_words words.now) name.now) }
-    ensures none { IfNone result ((file : _) → AskForCode (bytes_of_words words.now) file → ⊥) }
+/// The names of the files of which accepted words want the listing, and `None` for other words. It takes no memory.
+pub fn code_files(words: &Vec<String>) -> Option<&[String]>
+    ensures some { IfSome result (λ files. AskForCode (bytes_of_words words.now) (map string_bytes files.now)) }
+    ensures none { IfNone result ((files : _) → AskForCode (bytes_of_words words.now) files → ⊥) }
 {
-    let (first, rest) = words.split_first()?;
-    let (name, more) = rest.split_first()?;
-    if first.as_str() != "code" || !is_plain(name) || !more.is_empty() {
+    let (first, files) = words.split_first()?;
+    if first.as_str() != "code" {
         return None;
     }
-    Some(name)
+    if !are_files(files) {
+        return None;
+    }
+    Some(files)
 }
 
-/// A law: words ask for a run or for a listing, not for both, and for the listing of one file at most.
+/// A law: words ask for a run or for a listing, not for both, and for that of one list of files at most.
 pub fn one_command()
-    ensures apart { (words : _) (asked : _) (file : _) → AskForRun words asked → AskForCode words file → ⊥ }
+    ensures apart { (words : _) (asked : _) (files : _) → AskForRun words asked → AskForCode words files → ⊥ }
     ensures one { (words : _) (a b : _) → AskForCode words a → AskForCode words b → a ≡ b }
 {}
 
 /// A law: words ask for one run at most.
 pub fn one_meaning()
     ensures { (words : _) (a b : _) → AskForRun words a → AskForRun words b
-        → (a.file ≡ b.file) × (a.ranks ≡ b.ranks) × (a.ticks ≡ b.ticks) × (a.journal ≡ b.journal) }
+        → (a.files ≡ b.files) × (a.ranks ≡ b.ranks) × (a.ticks ≡ b.ticks) × (a.journal ≡ b.journal) }
+{}
+
+/// A law: words ask for 1 to 16 files.
+pub fn files_are_few()
+    ensures run { (words : _) (asked : _) → AskForRun words asked → (1 ≤ length asked.files) × (length asked.files ≤ 16) }
+    ensures code { (words : _) (files : _) → AskForCode words files → (1 ≤ length files) × (length files ≤ 16) }
 {}
 
 /// A law: words ask for 1 to 256 ranks.

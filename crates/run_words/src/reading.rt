@@ -1,13 +1,16 @@
 //! Words read from the first on.
-ghost use Rattle.std.specs.Prelude.{◌≡◌, ◌≤◌, ◌∷◌, length, map, string_bytes, None, IfSome, MatchOption};
+ghost use Rattle.std.specs.Prelude.{◌≡◌, ◌≤◌, ◌∷◌, drop, length, map, string_bytes, None, IfOk, IfSome, MatchOption};
 ghost use Rattle.std.specs.Option.{option_map};
-ghost use Rattle.run_words.specs.steps.Reading.{Said, nothing_said, is_number as is_number_lem, is_plain as is_plain_lem, ranks_said, ticks_said, with_file as with_file_lem, with_ranks as with_ranks_lem, with_ticks as with_ticks_lem, with_journal as with_journal_lem, said_with, asked_of};
+ghost use Rattle.run_words.specs.steps.Reading.{Said, nothing_said, is_number as is_number_lem, is_plain as is_plain_lem, ranks_said, ticks_said, with_file as with_file_lem, with_ranks as with_ranks_lem, with_ticks as with_ticks_lem, with_journal as with_journal_lem, said_with, files_in as files_in_lem, has_value as has_value_lem, are_files as are_files_lem, asked_of};
 ghost use Rattle.run_words.specs.steps.Views.{said_by, asked_in};
+
+use std::alloc::{AllocError, Global};
 
 /// What accepted words ask for, borrowed from them.
 #[derive(Clone, Copy)]
 pub struct Run<'a> {
-    pub file: &'a str,
+    /// The words behind `run`, among which the files' names stand.
+    pub parts: &'a [String],
     pub ranks: u16,
     pub ticks: u64,
     pub journal: Option<&'a str>,
@@ -16,7 +19,8 @@ pub struct Run<'a> {
 /// What the words so far have said.
 #[derive(Clone, Copy)]
 struct Found<'a> {
-    file: Option<&'a str>,
+    /// How many files.
+    files: u8,
     ranks: Option<u16>,
     ticks: Option<u64>,
     journal: Option<&'a str>,
@@ -31,8 +35,11 @@ pub fn run_of(words: &[String]) -> Option<Run<'_>>
         return None;
     }
     let found = found_in(parts)?;
+    if found.files == 0 {
+        return None;
+    }
     Some(Run {
-        file: found.file?,
+        parts,
         ranks: found.ranks.unwrap_or(1),
         ticks: found.ticks.unwrap_or(1_000_000),
         journal: found.journal,
@@ -44,7 +51,7 @@ fn found_in(words: &[String]) -> Option<Found<'_>>
     ensures { option_map said_by result ≡ said_with (map string_bytes words.now) nothing_said }
 {
     let mut found = Found {
-        file: None,
+        files: 0,
         ranks: None,
         ticks: None,
         journal: None,
@@ -83,15 +90,15 @@ fn with_part<'a>(
     Some((with_file(found, word)?, after))
 }
 
-/// What is said with a source's name, which may stand once.
+/// What is said with the name of one file more, of which there may be 16.
 fn with_file<'a>(found: Found<'a>, name: &'a str) -> Option<Found<'a>>
     ensures { option_map said_by result ≡ with_file_lem (said_by found.entry) name.now }
 {
-    if !is_plain(name) || found.file.is_some() {
+    if !is_plain(name) || found.files >= 16 {
         return None;
     }
     Some(Found {
-        file: Some(name),
+        files: found.files + 1,
         ..found
     })
 }
@@ -170,4 +177,45 @@ pub fn is_plain(word: &str) -> bool
     ensures { result ≡ is_plain_lem word.now }
 {
     word.as_bytes().first().is_some_and(|b| *b != b'-')
+}
+
+/// The names of the files among the words behind `run`, in order.
+pub fn files_in(alloc: Global, parts: &[String]) -> Result<Vec<String>, AllocError>
+    ensures { IfOk result (λ files. map string_bytes files.items ≡ files_in_lem (map string_bytes parts.now)) }
+{
+    let mut files = Vec::new(alloc);
+    let mut rest = parts;
+    while let Some((word, after)) = rest.split_first() {
+        if has_value(word) {
+            rest = behind_first(after);
+        } else {
+            files.push(String::from_str(alloc, word)?)?;
+            rest = after;
+        }
+    }
+    Ok(files)
+}
+
+/// The words behind the first one.
+fn behind_first(words: &[String]) -> &[String]
+    ensures { result.now ≡ drop 1 words.now }
+{
+    match words.split_first() {
+        Some((_, rest)) => rest,
+        None => words,
+    }
+}
+
+/// Whether a word is the name of an option with a value.
+fn has_value(word: &str) -> bool
+    ensures { result ≡ has_value_lem word.now }
+{
+    word == "--ranks" || word == "--journal" || word == "--ticks"
+}
+
+/// Whether words are the names of 1 to 16 files.
+pub fn are_files(names: &[String]) -> bool
+    ensures { result ≡ are_files_lem (map string_bytes names.now) }
+{
+    (1..=16).contains(&names.len()) && names.iter().all(|name| is_plain(name))
 }

@@ -21,7 +21,12 @@ pub(crate) fn answer(alloc: Global, out: &mut String, line: &str) -> Result<(), 
 }
 
 fn show_command(out: &mut String, command: &Command) -> Result<(), AllocError> {
-    show_bytes(out, command.file.as_bytes())?;
+    for (at, file) in command.files.iter().enumerate() {
+        if at > 0 {
+            out.push_str(" ")?;
+        }
+        show_bytes(out, file.as_bytes())?;
+    }
     write!(out, ", ranks {}, ticks {}", command.ranks, command.ticks)
 }
 

@@ -8,7 +8,7 @@ use rank_range::{
     areas_are_in_the_range, computed_fit_is_first, first_fit_is_one, lines_are_the_cut,
     spelled_heap_is_one, stored_numbers_are_loaded, words_are_extended,
 };
-use run_words::{one_meaning, ranks_are_few, ticks_are_bounded};
+use run_words::{files_are_few, one_meaning, ranks_are_few, ticks_are_bounded};
 use schedule::{printed_is_read, turns_suffice};
 
 /// A layer.
@@ -104,6 +104,7 @@ impl Word {
             Word::Fields => puts_are_taken_back(),
             Word::Words => {
                 one_meaning();
+                files_are_few();
                 ranks_are_few();
                 ticks_are_bounded();
             }

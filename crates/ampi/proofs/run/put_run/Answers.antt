@@ -1,4 +1,3 @@
-use Rattle.am_io.proofs.PieceLemmas.{AppendsPart-nothing}
 use Rattle.ampi.proofs.PutLemmas.{on-err, said-part}
 use Rattle.ampi.proofs.RunLemmas.{put-all, put-header, put-header-whole, put-journal, put-lines, put-report}
 use Rattle.ampi.proofs.run.put_run.Goals as goal

@@ -16,13 +16,13 @@ returns-clause-accepted c =
     record {
       asked = asked_in run;
       asks = asks_for _ _ (asked_in run) c.deref.ensures.value read;
-      file = c.in_ok-from_str.ensures.ok;
+      files = c.in_ok-files_in.ensures;
       ranks = refl;
       ticks = refl;
     }
 
-pub returns-in_err-from_str-clause-memory : goal.returns-in_err-from_str-clause-memory
-returns-in_err-from_str-clause-memory c =
+pub returns-in_err-files_in-clause-memory : goal.returns-in_err-files_in-clause-memory
+returns-in_err-files_in-clause-memory c =
     let run = c.in_ok-run.run' in
     let read = sym (ap (option_map asked_in) c.in_ok-run.ensures.ok_part) ∙ c.run_of.ensures in
     λ _. (asked_in run, asks_for _ _ (asked_in run) c.deref.ensures.value read)

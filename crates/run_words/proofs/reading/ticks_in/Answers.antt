@@ -1,4 +1,4 @@
-use Rattle.std.proofs.Common.{◌≡◌, sym, ◌∙◌, ◌&&◌, leb, arith}
+use Rattle.std.proofs.Common.{◌≡◌, sym, ◌∙◌, leb, arith}
 use Rattle.std.proofs.lemmas.Bool.Decides.{nat_tests}
 use Rattle.run_words.proofs.NumberLemmas.{parsed, ticks_said-large, ticks_said-read}
 use Rattle.run_words.proofs.reading.ticks_in.Goals as goal

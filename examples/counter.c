@@ -1,0 +1,5 @@
+static int total;
+int count(int step) {
+  total += step;
+  return total;
+}

@@ -1,0 +1,5 @@
+
+int half(int n, int d) {
+  int k = n;
+  return k / d;
+}

@@ -1,0 +1,1 @@
+static int n; int fb(void) { n = n + 2; return n; }

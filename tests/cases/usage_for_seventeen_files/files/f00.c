@@ -1,0 +1,2 @@
+int f1(void);
+int main(void) { return f1(); }
