@@ -1,0 +1,10 @@
+pub mod ListLemmas
+pub mod MachineLemmas
+pub mod ReplyLemmas
+pub mod WorldLemmas
+pub mod RunLemmas
+pub mod StandLemmas
+pub mod ArrivalLemmas
+pub mod CallLemmas
+pub mod CallKeeps
+pub mod QuietLemmas
