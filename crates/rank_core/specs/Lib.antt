@@ -1,2 +1,4 @@
 pub mod Started
 pub mod Arrived
+pub mod Turns
+pub mod Settled

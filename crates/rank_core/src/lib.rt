@@ -6,5 +6,8 @@ mod laws;
 mod starting;
 
 pub use arrival::{ArriveOut, arrive};
-pub use laws::started_ranks_run;
+pub use laws::{
+    answers_keep_calls_in_turn, arrivals_keep_ranks_settled, ranks_start_settled,
+    runs_keep_ranks_settled, settled_ranks_may_call, started_ranks_run,
+};
 pub use starting::start;
