@@ -3,6 +3,7 @@
 
 mod failed;
 mod heaps;
+mod images;
 mod lexing;
 mod libraries;
 mod matches;

@@ -6,7 +6,7 @@ use crate::memories::{self, Bulk};
 use crate::parsing::{self, Shape};
 use crate::plans::{self, Rule};
 use crate::sweeps::{self, Call};
-use crate::{lexing, matches, schedules};
+use crate::{images, lexing, matches, schedules};
 use std::alloc::Global;
 
 #[derive(Clone, Copy)]
@@ -20,6 +20,7 @@ pub enum Figure {
     Memory(Bulk),
     Library(Function),
     Sweep(Call),
+    Packet,
 }
 
 #[derive(Clone, Copy)]
@@ -30,7 +31,7 @@ pub struct Work {
 }
 
 /// Each figure once, small: its size, and its turns.
-pub const SMALL: [(Figure, u32, u32); 20] = [
+pub const SMALL: [(Figure, u32, u32); 21] = [
     (Figure::Lex, 4, 3),
     (Figure::Parse(Shape::Flat), 2, 3),
     (Figure::Parse(Shape::Deep), 2, 3),
@@ -51,6 +52,7 @@ pub const SMALL: [(Figure, u32, u32); 20] = [
     (Figure::Library(Function::Memcpy), 1000, 3),
     (Figure::Sweep(Call::Barrier), 8, 3),
     (Figure::Sweep(Call::Alltoall), 8, 3),
+    (Figure::Packet, 10, 3),
 ];
 
 impl Work {
@@ -91,6 +93,7 @@ impl Work {
                 libraries::bytes_given(alloc, function, self.size, self.turns)
             }
             Figure::Sweep(call) => Ok(sweeps::swept(alloc, call, self.size, self.turns)?.0),
+            Figure::Packet => images::bytes_encoded(alloc, self.size, self.turns),
         }
     }
 
@@ -117,6 +120,7 @@ impl Work {
             Figure::Library(Function::Memcpy) => ("library memcpy", "bytes"),
             Figure::Sweep(Call::Barrier) => ("sweep barrier", "messages"),
             Figure::Sweep(Call::Alltoall) => ("sweep alltoall", "messages"),
+            Figure::Packet => ("packet", "bytes"),
         }
     }
 }
@@ -127,6 +131,7 @@ impl Figure {
             ("lex", "") => Some(Figure::Lex),
             ("match", "") => Some(Figure::Match),
             ("schedule", "") => Some(Figure::Schedule),
+            ("packet", "") => Some(Figure::Packet),
             ("parse", _) => Shape::of(kind).map(Figure::Parse),
             ("heap", _) => Pattern::of(kind).map(Figure::Heap),
             ("balance", _) => Rule::of(kind).map(Figure::Balance),
