@@ -1,5 +1,6 @@
 -- What statements and functions do in a run, and the run of a program.
-use Rattle.std.specs.Prelude.{ℕ, zero, suc, ◌+◌, pos, if◌then◌else◌, nat_eq, nat_le, List, [], ◌∷◌, length, take, Option, None, Some, slice_get, get_or}
+use Rattle.std.specs.Prelude.{ℕ, zero, suc, ◌+◌, pos, Bool, if◌then◌else◌, nat_eq, nat_le, List, [], ◌∷◌, length, take, Option, None, Some, slice_get, get_or}
+use Rattle.std.specs.Ordering.{int_eq}
 use Rattle.am_base.specs.declared.traps.TrapCause.TheVariants.{CallDepth, DataStack}
 use Rattle.rank_range.specs.declared.run.Segment.{Segment}
 use Rattle.rank_range.specs.Areas.{Memory}
@@ -124,10 +125,14 @@ do_from test body entered f exits next =
     let again : Rest = tick (test (do_loop test body f exits next) next) in
     entered f (record exits { on_break = next; on_continue = again }) again
 
+-- whether a case has the value of a word
+abbrev pub is_case : Case → ℕ → Bool
+is_case c x = int_eq (value_of kind.UnsignedLong x) (value_of kind.UnsignedLong c.value)
+
 -- The label at which a `switch` goes on: that of the case with the value, else that of `default`.
 abbrev pub target : List Case → Option ℕ → ℕ → Option ℕ
 target [] default x = default
-target (c ∷ cs) default x = if nat_eq c.value x then Some c.label else target cs default x
+target (c ∷ cs) default x = if is_case c x then Some c.label else target cs default x
 
 abbrev pub entered_at : Option Meaning → Meaning
 entered_at None f exits next = next

@@ -20,10 +20,10 @@ use Rattle.c_types.specs.Need.{Pending, pending, pending_if, in_store, in_declar
 use Rattle.c_model.specs.Outcome.{Rest, tick, with_memory, writing}
 use Rattle.c_model.specs.Run.{Calling}
 use Rattle.c_model.specs.Statements as run
-use Rattle.c_model.specs.Statements.{Exits, Frame, Meaning, Acts, here_at, evaluated, evaluated_if, tested, turns, loop, do_turns, do_loop, made_zero, put, stored_in_order, declared, all_declared, whole_if, returned, acts_step, acts, statements}
+use Rattle.c_model.specs.Statements.{Exits, Frame, Meaning, Acts, here_at, evaluated, evaluated_if, tested, turns, loop, loop_from, do_turns, do_loop, do_from, made_zero, put, stored_in_order, declared, all_declared, whole_if, returned, acts_step, acts, statements}
 use Rattle.codegen.specs.Layout.{Part, one, ◌then◌}
 use Rattle.codegen.specs.Sizes.{expr_size, dropped_size, test_size, again_size, all_declared_size}
-use Rattle.codegen.specs.Statements.{Within, Targets, Piece, ticked, full_part, dropped_part, test_part, zeros_part, put_part, stores_part, declared_part, all_declared_part, again_part, continue_place, in_order_part, stmt_step, stmt_piece}
+use Rattle.codegen.specs.Statements.{Within, Targets, Piece, ticked, full_part, dropped_part, test_part, zeros_part, put_part, stores_part, declared_part, all_declared_part, again_part, continue_place, in_order_part, while_piece, do_piece, for_piece, stmt_step, stmt_piece}
 use Rattle.codegen.specs.Covered.{all_true, expr_covered, covered_if, stores_covered, all_declared_covered, begins_once, stmt_covered_step, stmt_covered}
 use Rattle.codegen.proofs.Running.{Standing, Does, Told, fewer, from_place, does_push, does_pop, does_local, does_store, does_copy, does_zero, does_jump, does_if_zero, does_tick}
 use Rattle.codegen.proofs.Spanning.{Spans, Stands, spans_none, spans_one, spans_then, spans_first, lies, told_behind, told_next, line_behind}
@@ -63,16 +63,21 @@ pub record ActsAs (code : Code) (s : Standing) (f : Frame) (p : Piece) (m : Mean
   pub by : (place after most : ℕ) (t : Targets) (exits : Exits) (next : Rest) → Spans (Stands code) place (p.part t) after
       → Leads code s most t exits → Does code s after [] most next → Does code s place [] most (m f exits next)
 
+-- The same from a label on, before which so many instructions of the piece stand.
+pub record EntersAt (code : Code) (s : Standing) (f : Frame) (p : Piece) (count : ℕ) (m : Meaning) : Type 0 where
+  pub by : (place after most : ℕ) (t : Targets) (exits : Exits) (next : Rest) → Spans (Stands code) place (p.part t) after
+      → Leads code s most t exits → Does code s after [] most next → Does code s (place + count) [] most (m f exits next)
+
 -- the equations of a statement at one layer
-acts_roll : (x : Stmt-F Stmt) → acts (roll-Stmt x) ≡ acts_step (map-Stmt Stmt Acts acts x)
+pub acts_roll : (x : Stmt-F Stmt) → acts (roll-Stmt x) ≡ acts_step (map-Stmt Stmt Acts acts x)
 unfolding acts
 acts_roll x = fold-roll-Stmt Acts acts_step x
 
-covered_roll : (fs : List Function) (x : Stmt-F Stmt) → (stmt_covered fs) (roll-Stmt x) ≡ (stmt_covered_step fs) (map-Stmt Stmt Bool (stmt_covered fs) x)
+pub covered_roll : (fs : List Function) (x : Stmt-F Stmt) → (stmt_covered fs) (roll-Stmt x) ≡ (stmt_covered_step fs) (map-Stmt Stmt Bool (stmt_covered fs) x)
 unfolding stmt_covered
 covered_roll fs x = fold-roll-Stmt Bool (stmt_covered_step fs) x
 
-pending_roll : (x : Stmt-F Stmt) → pending_of (roll-Stmt x) ≡ pending_step (map-Stmt Stmt (List Pending) pending_of x)
+pub pending_roll : (x : Stmt-F Stmt) → pending_of (roll-Stmt x) ≡ pending_step (map-Stmt Stmt (List Pending) pending_of x)
 unfolding pending_of
 pending_roll x = fold-roll-Stmt (List Pending) pending_step x
 
@@ -88,7 +93,7 @@ module _ (fs : List Function) (code : Code) (s : Standing) (calling : Calling) (
   frame = frame_in s calling object unit
 
   -- a full expression, behind a tick point of its line
-  over_full : (e : FullExpr) (line place after : ℕ) (stack : List ℕ) (most : ℕ) (next : ℕ → Rest) → (expr_covered fs) e.expr ≡ true
+  pub over_full : (e : FullExpr) (line place after : ℕ) (stack : List ℕ) (most : ℕ) (next : ℕ → Rest) → (expr_covered fs) e.expr ≡ true
       → length stack + need_of e.expr ≤ operand_limit → Told code place (here_in s unit line) → Spans (Stands code) place (full_part within e) after
       → ((x : ℕ) → Does code s after (x ∷ stack) most (next x)) → Does code s place stack most (evaluated e frame line next)
   over_full e line place after stack most next covered fits told sp d =
@@ -102,7 +107,7 @@ module _ (fs : List Function) (code : Code) (s : Standing) (calling : Calling) (
       (told_behind fs code (here_in s unit line) place (full_part within e place) sp.instrs (calm_code fs object e.expr covered place) told)
 
   -- the tick point before a part
-  tick_first : (line place after : ℕ) (b : Part) → Spans (Stands code) place (ticked within line then b) after
+  pub tick_first : (line place after : ℕ) (b : Part) → Spans (Stands code) place (ticked within line then b) after
       → (slice_get code.instrs place ≡ Some (instr.Tick unit line)) × Told code (place + 1) (here_in s unit line) × Spans (Stands code) (place + 1) b after
   tick_first line place after b sp =
       let first = spans_first (Stands code) place after (instr.Tick unit line) b sp in
@@ -196,7 +201,7 @@ module _ (fs : List Function) (code : Code) (s : Standing) (calling : Calling) (
   -- ---- expressions in statements
 
   -- an expression behind its own tick point
-  ticked_full : (e : FullExpr) (line place after most : ℕ) (rest : Part) (next : ℕ → Rest) → (expr_covered fs) e.expr ≡ true → AllFit (pending 0 e)
+  pub ticked_full : (e : FullExpr) (line place after most : ℕ) (rest : Part) (next : ℕ → Rest) → (expr_covered fs) e.expr ≡ true → AllFit (pending 0 e)
       → Spans (Stands code) place (ticked within line then full_part within e then rest) after
       → ((less x : ℕ) → less < most → Does code s (place + 1 + expr_size e.expr) (x ∷ []) less (next x))
       → Does code s place [] most (tick (evaluated e frame line next))
@@ -207,7 +212,7 @@ module _ (fs : List Function) (code : Code) (s : Standing) (calling : Calling) (
       over_full e line (place + 1) (place + 1 + expr_size e.expr) [] less next covered fits.0 first.1 parts.0 (λ x. d less x lt))
 
   -- what stands behind it
-  behind_full : (e : FullExpr) (line place after : ℕ) (rest : Part) → Spans (Stands code) place (ticked within line then full_part within e then rest) after
+  pub behind_full : (e : FullExpr) (line place after : ℕ) (rest : Part) → Spans (Stands code) place (ticked within line then full_part within e then rest) after
       → Spans (Stands code) (place + 1 + expr_size e.expr) rest after
   behind_full e line place after rest sp =
       (spans_split (Stands code) (place + 1) after (expr_size e.expr) (full_part within e) rest (sized_full within e) (tick_first line place after _ sp).2).1
@@ -235,14 +240,14 @@ module _ (fs : List Function) (code : Code) (s : Standing) (calling : Calling) (
   -- ---- loops
 
   -- A loop in code: its test behind a tick point, its body, where `continue` leads, and the place behind it.
-  record Loop (line : ℕ) (test : Rest → Rest → Rest) (step : Rest → Rest) (p : Piece) (m : Meaning) (start body behind into after : ℕ) : Type 0 where
-    ticks : slice_get code.instrs start ≡ Some (instr.Tick unit line)
-    tests : (most : ℕ) (holds fails : Rest) → Does code s body [] most holds → Does code s after [] most fails
+  pub record Loop (line : ℕ) (test : Rest → Rest → Rest) (step : Rest → Rest) (p : Piece) (m : Meaning) (start body behind into after : ℕ) : Type 0 where
+    pub ticks : slice_get code.instrs start ≡ Some (instr.Tick unit line)
+    pub tests : (most : ℕ) (holds fails : Rest) → Does code s body [] most holds → Does code s after [] most fails
         → Does code s (start + 1) [] most (test holds fails)
-    piece : ActsAs code s frame p m
-    stands : Spans (Stands code) body (p.part (record { to_break = after; to_continue = into })) behind
-    steps : (most : ℕ) (r : Rest) → Does code s start [] most r → Does code s into [] most (step r)
-    behinds : (most : ℕ) (r : Rest) → Does code s start [] most r → Does code s behind [] most (step r)
+    pub piece : ActsAs code s frame p m
+    pub stands : Spans (Stands code) body (p.part (record { to_break = after; to_continue = into })) behind
+    pub steps : (most : ℕ) (r : Rest) → Does code s start [] most r → Does code s into [] most (step r)
+    pub behinds : (most : ℕ) (r : Rest) → Does code s start [] most r → Does code s behind [] most (step r)
 
   -- so many turns, where no more ticks are left
   over_turns : (line : ℕ) (test : Rest → Rest → Rest) (step : Rest → Rest) (p : Piece) (m : Meaning) (start body behind into after : ℕ)
@@ -261,7 +266,7 @@ module _ (fs : List Function) (code : Code) (s : Standing) (calling : Calling) (
       (l.behinds less _ again))
       d')
 
-  over_loop : (line : ℕ) (test : Rest → Rest → Rest) (step : Rest → Rest) (p : Piece) (m : Meaning) (start body behind into after : ℕ)
+  pub over_loop : (line : ℕ) (test : Rest → Rest → Rest) (step : Rest → Rest) (p : Piece) (m : Meaning) (start body behind into after : ℕ)
       → Loop line test step p m start body behind into after
       → (most : ℕ) (t : Targets) (exits : Exits) (next : Rest) → Leads code s most t exits → Does code s after [] most next
       → Does code s start [] most (loop test m step frame exits next)
@@ -288,7 +293,7 @@ module _ (fs : List Function) (code : Code) (s : Standing) (calling : Calling) (
       (record { on_break = d; on_continue = again; on_return = leads.on_return })
       (l.behinds most _ again)
 
-  over_do : (line : ℕ) (test : Rest → Rest → Rest) (p : Piece) (m : Meaning) (start body behind after : ℕ)
+  pub over_do : (line : ℕ) (test : Rest → Rest → Rest) (p : Piece) (m : Meaning) (start body behind after : ℕ)
       → Loop line test (λ r. r) p m start body behind start after
       → (most : ℕ) (t : Targets) (exits : Exits) (next : Rest) → Leads code s most t exits → Does code s after [] most next
       → Does code s body [] most (do_loop test m frame exits next)
@@ -298,12 +303,33 @@ module _ (fs : List Function) (code : Code) (s : Standing) (calling : Calling) (
         (fewer code s after [] most n next le d)).by n answers done (omega arith) top;
   }
 
+  -- the loop from within its body on
+  pub over_loop_from : (line : ℕ) (test : Rest → Rest → Rest) (step : Rest → Rest) (p : Piece) (m : Meaning) (start body behind into after count : ℕ) (entered : Meaning)
+      → Loop line test step p m start body behind into after → EntersAt code s frame p count entered
+      → (most : ℕ) (t : Targets) (exits : Exits) (next : Rest) → Leads code s most t exits → Does code s after [] most next
+      → Does code s (body + count) [] most (loop_from test m step entered frame exits next)
+  over_loop_from line test step p m start body behind into after count entered l enters most t exits next leads d =
+      let again = over_loop line test step p m start body behind into after l most t exits next leads d in
+      enters.by body behind most _ _ _ l.stands
+      (record { on_break = d; on_continue = l.steps most _ again; on_return = leads.on_return })
+      (l.behinds most _ again)
+
+  pub over_do_from : (line : ℕ) (test : Rest → Rest → Rest) (p : Piece) (m : Meaning) (start body behind after count : ℕ) (entered : Meaning)
+      → Loop line test (λ r. r) p m start body behind start after → EntersAt code s frame p count entered
+      → (most : ℕ) (t : Targets) (exits : Exits) (next : Rest) → Leads code s most t exits → Does code s after [] most next
+      → Does code s (body + count) [] most (do_from test m entered frame exits next)
+  over_do_from line test p m start body behind after count entered l enters most t exits next leads d =
+      let again = does_tick code s unit line start [] most _ l.ticks (omega arith) (λ less lt.
+      let le : less ≤ most = omega (arith, lt) in
+      let d' = fewer code s after [] most less next le d in
+      l.tests less _ next (over_do line test p m start body behind after l less t exits next (leads_fewer code s most less t exits le leads) d') d') in
+      enters.by body behind most _ _ _ l.stands
+      (record { on_break = d; on_continue = again; on_return = leads.on_return })
+      (l.behinds most _ again)
+
   -- ---- statements
 
-  abbrev HasActs : Stmt → Type 0
-  HasActs a = (stmt_covered fs) a ≡ true → AllFit (pending_of a) → ActsAs code s frame (stmt_piece within a) ((acts a).whole)
-
-  acts_empty : (line : ℕ) → ActsAs code s frame (stmt_step within (Stmt-F.Empty line)) ((acts_step (Stmt-F.Empty line)).whole)
+  pub acts_empty : (line : ℕ) → ActsAs code s frame (stmt_step within (Stmt-F.Empty line)) ((acts_step (Stmt-F.Empty line)).whole)
   acts_empty line = record {
     by = λ place after most t exits next sp leads d.
         let first = spans_one (Stands code) place after (instr.Tick unit line) sp in
@@ -311,7 +337,7 @@ module _ (fs : List Function) (code : Code) (s : Standing) (calling : Calling) (
         (λ less lt. from_place code s _ _ _ _ _ first.1 (fewer code s after [] most less next (omega (arith, lt)) d));
   }
 
-  acts_express : (line : ℕ) (e : FullExpr) → (expr_covered fs) e.expr ≡ true → AllFit (pending 0 e)
+  pub acts_express : (line : ℕ) (e : FullExpr) → (expr_covered fs) e.expr ≡ true → AllFit (pending 0 e)
       → ActsAs code s frame (stmt_step within (Stmt-F.Express line e)) ((acts_step (Stmt-F.Express line e)).whole)
   acts_express line e covered fits = record {
     by = λ place after most t exits next sp leads d.
@@ -321,13 +347,13 @@ module _ (fs : List Function) (code : Code) (s : Standing) (calling : Calling) (
         (from_place code s _ _ _ _ _ last.1 (fewer code s after [] most less next (omega (arith, lt)) d)));
   }
 
-  acts_declare : (d : Declared) → (stores_covered fs) d.stores ≡ true → AllFit (in_declared d)
+  pub acts_declare : (d : Declared) → (stores_covered fs) d.stores ≡ true → AllFit (in_declared d)
       → ActsAs code s frame (stmt_step within (Stmt-F.Declare d)) ((acts_step (Stmt-F.Declare d)).whole)
   acts_declare d covered fits = record {
     by = λ place after most t exits next sp leads does. over_declared d place after most next covered fits sp does;
   }
 
-  acts_if : (line : ℕ) (e : FullExpr) (p : Piece) (a : Acts) → SizedPiece p → (expr_covered fs) e.expr ≡ true → AllFit (pending 0 e) → ActsAs code s frame p a.whole
+  pub acts_if : (line : ℕ) (e : FullExpr) (p : Piece) (a : Acts) → SizedPiece p → (expr_covered fs) e.expr ≡ true → AllFit (pending 0 e) → ActsAs code s frame p a.whole
       → ActsAs code s frame (stmt_step within (Stmt-F.If line e p None)) ((acts_step (Stmt-F.If line e a None)).whole)
   acts_if line e p a sized covered fits has = record {
     by = λ place after most t exits next sp leads d.
@@ -345,7 +371,7 @@ module _ (fs : List Function) (code : Code) (s : Standing) (calling : Calling) (
         (from_place code s _ _ _ _ _ e1 d'));
   }
 
-  acts_if_else : (line : ℕ) (e : FullExpr) (p q : Piece) (a b : Acts) → SizedPiece p → SizedPiece q → (expr_covered fs) e.expr ≡ true → AllFit (pending 0 e)
+  pub acts_if_else : (line : ℕ) (e : FullExpr) (p q : Piece) (a b : Acts) → SizedPiece p → SizedPiece q → (expr_covered fs) e.expr ≡ true → AllFit (pending 0 e)
       → ActsAs code s frame p a.whole → ActsAs code s frame q b.whole
       → ActsAs code s frame (stmt_step within (Stmt-F.If line e p (Some q))) ((acts_step (Stmt-F.If line e a (Some b))).whole)
   acts_if_else line e p q a b sized_p sized_q covered fits has others = record {
@@ -370,77 +396,95 @@ module _ (fs : List Function) (code : Code) (s : Standing) (calling : Calling) (
         (others.by otherwise after less t exits next jump.1 leads' d'));
   }
 
-  acts_while : (line : ℕ) (e : FullExpr) (p : Piece) (a : Acts) → SizedPiece p → (expr_covered fs) e.expr ≡ true → AllFit (pending 0 e) → ActsAs code s frame p a.whole
+  -- the loop of a `while`, and the tick point before it
+  pub while_loop : (line : ℕ) (e : FullExpr) (p : Piece) (m : Meaning) → SizedPiece p → (expr_covered fs) e.expr ≡ true → AllFit (pending 0 e) → ActsAs code s frame p m
+      → (place after : ℕ) (t : Targets) → Spans (Stands code) place ((while_piece within line e p).part t) after
+      → Loop line (tested (Some e) frame line) (λ r. r) p m (place + 1) (place + 1 + 1 + expr_size e.expr + 1) (place + 1 + 1 + expr_size e.expr + 1 + p.size) (place + 1)
+      (place + (2 + expr_size e.expr + 1 + p.size + 1))
+      × (place + (2 + expr_size e.expr + 1 + p.size + 1) ≡ after) × (slice_get code.instrs place ≡ Some (instr.Tick unit line))
+  while_loop line e p m sized covered fits has place after t sp =
+      let n = expr_size e.expr in
+      let size = 2 + n + 1 + p.size + 1 in
+      let t' : Targets = record { to_break = place + size; to_continue = place + 1 } in
+      let sp' : Spans (Stands code) place (ticked within line then ticked within line then full_part within e then one (instr.JumpIfZero (place + size))
+      then p.part t' then one (instr.Jump (place + 1))) after = record { instrs = sp.instrs; after_is = sp.after_is } in
+      let first = tick_first line place after _ sp' in
+      let second = tick_first line (place + 1) after _ first.2 in
+      let parts = spans_split (Stands code) (place + 1 + 1) after n (full_part within e) _ (sized_full within e) second.2 in
+      let test = spans_first (Stands code) (place + 1 + 1 + n) after (instr.JumpIfZero (place + size)) _ parts.1 in
+      let body = spans_split (Stands code) (place + 1 + 1 + n + 1) after p.size (p.part t') _ (sized_piece p t' sized) test.1 in
+      let jump = spans_one (Stands code) (place + 1 + 1 + n + 1 + p.size) after (instr.Jump (place + 1)) body.1 in
+      let back = λ (less : ℕ) (r : Rest). does_jump code s (place + 1) (place + 1 + 1 + n + 1 + p.size) [] less r jump.0 in
+      let l : Loop line (tested (Some e) frame line) (λ r. r) p m (place + 1) (place + 1 + 1 + n + 1) (place + 1 + 1 + n + 1 + p.size) (place + 1) (place + size) = record {
+        ticks = second.0;
+        tests = λ less holds fails h f. over_full e line (place + 1 + 1) (place + 1 + 1 + n) [] less _ covered fits.0 second.1 parts.0
+            (λ x. does_if_zero code s (place + size) x (place + 1 + 1 + n) [] less holds fails test.0 h f);
+        piece = has;
+        stands = body.0;
+        steps = λ less r h. h;
+        behinds = λ less r h. back less r h;
+      } in
+      (l, omega (arith, jump.1), first.0)
+
+  pub acts_while : (line : ℕ) (e : FullExpr) (p : Piece) (a : Acts) → SizedPiece p → (expr_covered fs) e.expr ≡ true → AllFit (pending 0 e) → ActsAs code s frame p a.whole
       → ActsAs code s frame (stmt_step within (Stmt-F.While line e p)) ((acts_step (Stmt-F.While line e a)).whole)
   acts_while line e p a sized covered fits has = record {
     by = λ place after most t exits next sp leads d.
-        let n = expr_size e.expr in
-        let size = 2 + n + 1 + p.size + 1 in
-        let t' : Targets = record { to_break = place + size; to_continue = place + 1 } in
-        let sp' : Spans (Stands code) place (ticked within line then ticked within line then full_part within e then one (instr.JumpIfZero (place + size))
-        then p.part t' then one (instr.Jump (place + 1))) after = record { instrs = sp.instrs; after_is = sp.after_is } in
-        let first = tick_first line place after _ sp' in
-        let second = tick_first line (place + 1) after _ first.2 in
-        let parts = spans_split (Stands code) (place + 1 + 1) after n (full_part within e) _ (sized_full within e) second.2 in
-        let test = spans_first (Stands code) (place + 1 + 1 + n) after (instr.JumpIfZero (place + size)) _ parts.1 in
-        let body = spans_split (Stands code) (place + 1 + 1 + n + 1) after p.size (p.part t') _ (sized_piece p t' sized) test.1 in
-        let jump = spans_one (Stands code) (place + 1 + 1 + n + 1 + p.size) after (instr.Jump (place + 1)) body.1 in
-        let e1 : place + size ≡ after = omega (arith, jump.1) in
-        let back = λ (less : ℕ) (r : Rest). does_jump code s (place + 1) (place + 1 + 1 + n + 1 + p.size) [] less r jump.0 in
-        let l : Loop line (tested (Some e) frame line) (λ r. r) p a.whole (place + 1) (place + 1 + 1 + n + 1) (place + 1 + 1 + n + 1 + p.size) (place + 1) (place + size) = record {
-          ticks = second.0;
-          tests = λ less holds fails h f. over_full e line (place + 1 + 1) (place + 1 + 1 + n) [] less _ covered fits.0 second.1 parts.0
-              (λ x. does_if_zero code s (place + size) x (place + 1 + 1 + n) [] less holds fails test.0 h f);
-          piece = has;
-          stands = body.0;
-          steps = λ less r h. h;
-          behinds = λ less r h. back less r h;
-        } in
-        does_tick code s unit line place [] most _ first.0 (omega arith) (λ less lt. let le : less ≤ most = omega (arith, lt) in
-        over_loop line _ _ p a.whole _ _ _ _ (place + size) l less t exits next (leads_fewer code s most less t exits le leads)
-        (from_place code s _ _ _ _ _ (sym e1) (fewer code s after [] most less next le d)));
+        let l = while_loop line e p a.whole sized covered fits has place after t sp in
+        let end = place + (2 + expr_size e.expr + 1 + p.size + 1) in
+        does_tick code s unit line place [] most _ l.2 (omega arith) (λ less lt. let le : less ≤ most = omega (arith, lt) in
+        over_loop line _ _ p a.whole _ _ _ _ end l.0 less t exits next (leads_fewer code s most less t exits le leads)
+        (from_place code s _ _ _ _ _ (sym l.1) (fewer code s after [] most less next le d)));
   }
 
-  acts_do : (line : ℕ) (p : Piece) (e : FullExpr) (a : Acts) → SizedPiece p → (expr_covered fs) e.expr ≡ true → AllFit (pending 0 e) → ActsAs code s frame p a.whole
+  -- the loop of a `do`, and what stands before it
+  pub do_loop_at : (line : ℕ) (p : Piece) (e : FullExpr) (m : Meaning) → SizedPiece p → (expr_covered fs) e.expr ≡ true → AllFit (pending 0 e) → ActsAs code s frame p m
+      → (place after : ℕ) (t : Targets) → Spans (Stands code) place ((do_piece within line p e).part t) after
+      → Loop line (tested (Some e) frame line) (λ r. r) p m (place + 2) (place + 1 + 1 + 1 + expr_size e.expr + 1) (place + 1 + 1 + 1 + expr_size e.expr + 1 + p.size) (place + 2)
+      (place + (3 + expr_size e.expr + 1 + p.size + 1))
+      × (place + (3 + expr_size e.expr + 1 + p.size + 1) ≡ after) × (slice_get code.instrs place ≡ Some (instr.Tick unit line))
+      × (slice_get code.instrs (place + 1) ≡ Some (instr.Jump (place + 3 + expr_size e.expr + 1)))
+  do_loop_at line p e m sized covered fits has place after t sp =
+      let n = expr_size e.expr in
+      let size = 3 + n + 1 + p.size + 1 in
+      let t' : Targets = record { to_break = place + size; to_continue = place + 2 } in
+      let sp' : Spans (Stands code) place (ticked within line then one (instr.Jump (place + 3 + n + 1)) then ticked within line then full_part within e
+      then one (instr.JumpIfZero (place + size)) then p.part t' then one (instr.Jump (place + 2))) after = record { instrs = sp.instrs; after_is = sp.after_is } in
+      let first = tick_first line place after _ sp' in
+      let jump = spans_first (Stands code) (place + 1) after (instr.Jump (place + 3 + n + 1)) _ first.2 in
+      let second = tick_first line (place + 1 + 1) after _ jump.1 in
+      let parts = spans_split (Stands code) (place + 1 + 1 + 1) after n (full_part within e) _ (sized_full within e) second.2 in
+      let test = spans_first (Stands code) (place + 1 + 1 + 1 + n) after (instr.JumpIfZero (place + size)) _ parts.1 in
+      let body = spans_split (Stands code) (place + 1 + 1 + 1 + n + 1) after p.size (p.part t') _ (sized_piece p t' sized) test.1 in
+      let back = spans_one (Stands code) (place + 1 + 1 + 1 + n + 1 + p.size) after (instr.Jump (place + 2)) body.1 in
+      let e2 : place + 1 + 1 ≡ place + 2 = omega arith in
+      let e4 : place + 1 + 1 + 1 ≡ place + 2 + 1 = omega arith in
+      let l : Loop line (tested (Some e) frame line) (λ r. r) p m (place + 2) (place + 1 + 1 + 1 + n + 1) (place + 1 + 1 + 1 + n + 1 + p.size) (place + 2) (place + size) = record {
+        ticks = subst (λ q. slice_get code.instrs q ≡ Some (instr.Tick unit line)) e2 second.0;
+        tests = λ less holds fails h f. from_place code s _ _ _ _ _ e4 (over_full e line (place + 1 + 1 + 1) (place + 1 + 1 + 1 + n) [] less _ covered fits.0 second.1 parts.0
+            (λ x. does_if_zero code s (place + size) x (place + 1 + 1 + 1 + n) [] less holds fails test.0 h f));
+        piece = has;
+        stands = body.0;
+        steps = λ less r h. h;
+        behinds = λ less r h. does_jump code s (place + 2) (place + 1 + 1 + 1 + n + 1 + p.size) [] less r back.0 h;
+      } in
+      (l, omega (arith, back.1), first.0, jump.0)
+
+  pub acts_do : (line : ℕ) (p : Piece) (e : FullExpr) (a : Acts) → SizedPiece p → (expr_covered fs) e.expr ≡ true → AllFit (pending 0 e) → ActsAs code s frame p a.whole
       → ActsAs code s frame (stmt_step within (Stmt-F.Do line p e)) ((acts_step (Stmt-F.Do line a e)).whole)
   acts_do line p e a sized covered fits has = record {
     by = λ place after most t exits next sp leads d.
         let n = expr_size e.expr in
-        let size = 3 + n + 1 + p.size + 1 in
-        let t' : Targets = record { to_break = place + size; to_continue = place + 2 } in
-        let sp' : Spans (Stands code) place (ticked within line then one (instr.Jump (place + 3 + n + 1)) then ticked within line then full_part within e
-        then one (instr.JumpIfZero (place + size)) then p.part t' then one (instr.Jump (place + 2))) after = record { instrs = sp.instrs; after_is = sp.after_is } in
-        let first = tick_first line place after _ sp' in
-        let jump = spans_first (Stands code) (place + 1) after (instr.Jump (place + 3 + n + 1)) _ first.2 in
-        let second = tick_first line (place + 1 + 1) after _ jump.1 in
-        let parts = spans_split (Stands code) (place + 1 + 1 + 1) after n (full_part within e) _ (sized_full within e) second.2 in
-        let test = spans_first (Stands code) (place + 1 + 1 + 1 + n) after (instr.JumpIfZero (place + size)) _ parts.1 in
-        let body = spans_split (Stands code) (place + 1 + 1 + 1 + n + 1) after p.size (p.part t') _ (sized_piece p t' sized) test.1 in
-        let back = spans_one (Stands code) (place + 1 + 1 + 1 + n + 1 + p.size) after (instr.Jump (place + 2)) body.1 in
-        let e1 : place + size ≡ after = omega (arith, back.1) in
-        let e2 : place + 1 + 1 ≡ place + 2 = omega arith in
+        let l = do_loop_at line p e a.whole sized covered fits has place after t sp in
+        let end = place + (3 + n + 1 + p.size + 1) in
         let e3 : place + 1 + 1 + 1 + n + 1 ≡ place + 3 + n + 1 = omega arith in
-        let e4 : place + 1 + 1 + 1 ≡ place + 2 + 1 = omega arith in
-        let l : Loop line (tested (Some e) frame line) (λ r. r) p a.whole (place + 2) (place + 1 + 1 + 1 + n + 1) (place + 1 + 1 + 1 + n + 1 + p.size) (place + 2) (place + size) = record {
-          ticks = subst (λ q. slice_get code.instrs q ≡ Some (instr.Tick unit line)) e2 second.0;
-          tests = λ less holds fails h f. from_place code s _ _ _ _ _ e4 (over_full e line (place + 1 + 1 + 1) (place + 1 + 1 + 1 + n) [] less _ covered fits.0 second.1 parts.0
-              (λ x. does_if_zero code s (place + size) x (place + 1 + 1 + 1 + n) [] less holds fails test.0 h f));
-          piece = has;
-          stands = body.0;
-          steps = λ less r h. h;
-          behinds = λ less r h. does_jump code s (place + 2) (place + 1 + 1 + 1 + n + 1 + p.size) [] less r back.0 h;
-        } in
-        does_tick code s unit line place [] most _ first.0 (omega arith) (λ less lt. let le : less ≤ most = omega (arith, lt) in
-        does_jump code s (place + 3 + n + 1) (place + 1) [] less _ jump.0 (from_place code s _ _ _ _ _ e3
-        (over_do line _ p a.whole _ _ _ (place + size) l less t exits next (leads_fewer code s most less t exits le leads)
-        (from_place code s _ _ _ _ _ (sym e1) (fewer code s after [] most less next le d)))));
+        does_tick code s unit line place [] most _ l.2 (omega arith) (λ less lt. let le : less ≤ most = omega (arith, lt) in
+        does_jump code s (place + 3 + n + 1) (place + 1) [] less _ l.3 (from_place code s _ _ _ _ _ e3
+        (over_do line _ p a.whole _ _ _ end l.0 less t exits next (leads_fewer code s most less t exits le leads)
+        (from_place code s _ _ _ _ _ (sym l.1) (fewer code s after [] most less next le d)))));
   }
 
-  acts_labelled : (label : ℕ) (p : Piece) (a : Acts) → ActsAs code s frame p a.whole
-      → ActsAs code s frame (stmt_step within (Stmt-F.Labelled label p)) ((acts_step (Stmt-F.Labelled label a)).whole)
-  acts_labelled label p a has = has
-
-  acts_break : (line : ℕ) → ActsAs code s frame (stmt_step within (Stmt-F.Break line)) ((acts_step (Stmt-F.Break line)).whole)
+  pub acts_break : (line : ℕ) → ActsAs code s frame (stmt_step within (Stmt-F.Break line)) ((acts_step (Stmt-F.Break line)).whole)
   acts_break line = record {
     by = λ place after most t exits next sp leads d.
         let first = tick_first line place after _ sp in
@@ -449,7 +493,7 @@ module _ (fs : List Function) (code : Code) (s : Standing) (calling : Calling) (
         does_jump code s t.to_break (place + 1) [] less _ last.0 (fewer code s _ _ most less _ (omega (arith, lt)) leads.on_break));
   }
 
-  acts_continue : (line : ℕ) → ActsAs code s frame (stmt_step within (Stmt-F.Continue line)) ((acts_step (Stmt-F.Continue line)).whole)
+  pub acts_continue : (line : ℕ) → ActsAs code s frame (stmt_step within (Stmt-F.Continue line)) ((acts_step (Stmt-F.Continue line)).whole)
   acts_continue line = record {
     by = λ place after most t exits next sp leads d.
         let first = tick_first line place after _ sp in
@@ -458,7 +502,7 @@ module _ (fs : List Function) (code : Code) (s : Standing) (calling : Calling) (
         does_jump code s t.to_continue (place + 1) [] less _ last.0 (fewer code s _ _ most less _ (omega (arith, lt)) leads.on_continue));
   }
 
-  acts_return : (line : ℕ) (e : Option FullExpr) → (covered_if fs) e ≡ true → AllFit (pending_if e)
+  pub acts_return : (line : ℕ) (e : Option FullExpr) → (covered_if fs) e ≡ true → AllFit (pending_if e)
       → ActsAs code s frame (stmt_step within (Stmt-F.Return line e)) ((acts_step (Stmt-F.Return line e)).whole)
   acts_return line None covered fits = record {
     by = λ place after most t exits next sp leads d.
@@ -476,7 +520,7 @@ module _ (fs : List Function) (code : Code) (s : Standing) (calling : Calling) (
         (λ less x lt. fewer code s _ _ most less _ (omega (arith, lt)) (leads.on_return x (place + 1 + expr_size e.expr) last.0));
   }
 
-  over_begin : (ds : List Declared) (start : Option FullExpr) (line place middle after most : ℕ) (next : Rest) → begins_once ds start ≡ true
+  pub over_begin : (ds : List Declared) (start : Option FullExpr) (line place middle after most : ℕ) (next : Rest) → begins_once ds start ≡ true
       → (all_declared_covered fs) ds ≡ true → (covered_if fs) start ≡ true → AllFit (flat_map in_declared ds) → AllFit (pending_if start)
       → Told code place (here_in s unit line) → Spans (Stands code) place (all_declared_part within ds) middle → Spans (Stands code) middle (dropped_part within start) after
       → Does code s after [] most next → Does code s place [] most (all_declared ds frame (evaluated_if start frame line next))
@@ -489,7 +533,7 @@ module _ (fs : List Function) (code : Code) (s : Standing) (calling : Calling) (
       absurd (true≢false (sym once))
 
   -- the step of a `for`, and the place behind its body
-  over_again : (step : Option FullExpr) (line low end start into : ℕ) → (covered_if fs) step ≡ true → AllFit (pending_if step)
+  pub over_again : (step : Option FullExpr) (line low end start into : ℕ) → (covered_if fs) step ≡ true → AllFit (pending_if step)
       → Spans (Stands code) low (again_part within line step) end → low + 2 ≡ into
       → (most : ℕ) (r : Rest) → Does code s end [] most r → Does code s start [] most r
       → Does code s (continue_place step start into) [] most (evaluated_if step frame line r) × Does code s low [] most (evaluated_if step frame line r)
@@ -509,7 +553,58 @@ module _ (fs : List Function) (code : Code) (s : Standing) (calling : Calling) (
       let does' = from_place code s _ _ _ _ _ two does in
       (from_place code s _ _ _ _ _ is does', does_jump code s (low + 2) low [] most _ first.0 does')
 
-  acts_for : (line : ℕ) (ds : List Declared) (start test step : Option FullExpr) (p : Piece) (a : Acts) → SizedPiece p
+  -- the loop of a `for`, and what stands before it
+  pub for_loop : (line : ℕ) (ds : List Declared) (start test step : Option FullExpr) (p : Piece) (m : Meaning) → SizedPiece p
+      → (covered_if fs) test ≡ true → (covered_if fs) step ≡ true → AllFit (pending_if test) → AllFit (pending_if step) → ActsAs code s frame p m
+      → (place after : ℕ) (t : Targets) → Spans (Stands code) place ((for_piece within line ds start test step p).part t) after
+      → Loop line (tested test frame line) (evaluated_if step frame line) p m (place + (1 + all_declared_size ds + dropped_size start))
+      (place + 1 + all_declared_size ds + dropped_size start + 1 + test_size test)
+      (place + 1 + all_declared_size ds + dropped_size start + 1 + test_size test + p.size)
+      (continue_place step (place + (1 + all_declared_size ds + dropped_size start)) (place + (1 + all_declared_size ds + dropped_size start + 1 + test_size test + p.size) + 2))
+      (place + (1 + all_declared_size ds + dropped_size start + 1 + test_size test + p.size + again_size step + 1))
+      × (place + (1 + all_declared_size ds + dropped_size start + 1 + test_size test + p.size + again_size step + 1) ≡ after)
+      × (slice_get code.instrs place ≡ Some (instr.Tick unit line)) × Told code (place + 1) (here_in s unit line)
+      × Spans (Stands code) (place + 1) (all_declared_part within ds) (place + 1 + all_declared_size ds)
+      × Spans (Stands code) (place + 1 + all_declared_size ds) (dropped_part within start) (place + 1 + all_declared_size ds + dropped_size start)
+  for_loop line ds start test step p m sized covered_test covered_step fits_test fits_step has place after t sp =
+      let n0 = all_declared_size ds in
+      let n1 = dropped_size start in
+      let n2 = test_size test in
+      let n3 = again_size step in
+      let before = 1 + n0 + n1 in
+      let behind = before + 1 + n2 + p.size in
+      let end = place + (behind + n3 + 1) in
+      let into = continue_place step (place + before) (place + behind + 2) in
+      let t' : Targets = record { to_break = end; to_continue = into } in
+      let sp' : Spans (Stands code) place (ticked within line then all_declared_part within ds then dropped_part within start then ticked within line
+      then test_part within test end then p.part t' then again_part within line step then one (instr.Jump (place + before))) after
+      = record { instrs = sp.instrs; after_is = sp.after_is } in
+      let first = tick_first line place after _ sp' in
+      let p1 = spans_split (Stands code) (place + 1) after n0 (all_declared_part within ds) _ (sized_all_declared within ds) first.2 in
+      let p2 = spans_split (Stands code) (place + 1 + n0) after n1 (dropped_part within start) _ (sized_dropped within start) p1.1 in
+      let second = tick_first line (place + 1 + n0 + n1) after _ p2.1 in
+      let p3 = spans_split (Stands code) (place + 1 + n0 + n1 + 1) after n2 (test_part within test end) _ (sized_test within test end) second.2 in
+      let p4 = spans_split (Stands code) (place + 1 + n0 + n1 + 1 + n2) after p.size (p.part t') _ (sized_piece p t' sized) p3.1 in
+      let low = place + 1 + n0 + n1 + 1 + n2 + p.size in
+      let p5 = spans_split (Stands code) low after n3 (again_part within line step) _ (sized_again within line step) p4.1 in
+      let back = spans_one (Stands code) (low + n3) after (instr.Jump (place + before)) p5.1 in
+      let e2 : place + 1 + n0 + n1 ≡ place + before = omega arith in
+      let e3 : place + 1 + n0 + n1 + 1 ≡ place + before + 1 = omega arith in
+      let e4 : low ≡ place + behind = omega arith in
+      let jumps = λ (less : ℕ) (r : Rest) (h : Does code s (place + before) [] less r). does_jump code s (place + before) (low + n3) [] less r back.0 h in
+      let again = over_again step line low (low + n3) (place + before) (place + behind + 2) covered_step fits_step p5.0 (ap (λ q. q + 2) e4) in
+      let l : Loop line (tested test frame line) (evaluated_if step frame line) p m (place + before) (place + 1 + n0 + n1 + 1 + n2) low into end = record {
+        ticks = subst (λ q. slice_get code.instrs q ≡ Some (instr.Tick unit line)) e2 second.0;
+        tests = λ less holds fails h f. from_place code s _ _ _ _ _ e3
+            (over_test test end line (place + 1 + n0 + n1 + 1) (place + 1 + n0 + n1 + 1 + n2) less holds fails covered_test fits_test second.1 p3.0 h f);
+        piece = has;
+        stands = p4.0;
+        steps = λ less r h. (again less r (jumps less r h) h).0;
+        behinds = λ less r h. (again less r (jumps less r h) h).1;
+      } in
+      (l, omega (arith, back.1), first.0, first.1, p1.0, p2.0)
+
+  pub acts_for : (line : ℕ) (ds : List Declared) (start test step : Option FullExpr) (p : Piece) (a : Acts) → SizedPiece p
       → begins_once ds start ≡ true → (all_declared_covered fs) ds ≡ true → (covered_if fs) start ≡ true → (covered_if fs) test ≡ true → (covered_if fs) step ≡ true
       → AllFit (flat_map in_declared ds) → AllFit (pending_if start) → AllFit (pending_if test) → AllFit (pending_if step) → ActsAs code s frame p a.whole
       → ActsAs code s frame (stmt_step within (Stmt-F.For line ds start test step p)) ((acts_step (Stmt-F.For line ds start test step a)).whole)
@@ -517,138 +612,13 @@ module _ (fs : List Function) (code : Code) (s : Standing) (calling : Calling) (
     by = λ place after most t exits next sp leads d.
         let n0 = all_declared_size ds in
         let n1 = dropped_size start in
-        let n2 = test_size test in
-        let n3 = again_size step in
         let before = 1 + n0 + n1 in
-        let behind = before + 1 + n2 + p.size in
-        let end = place + (behind + n3 + 1) in
-        let into = continue_place step (place + before) (place + behind + 2) in
-        let t' : Targets = record { to_break = end; to_continue = into } in
-        let sp' : Spans (Stands code) place (ticked within line then all_declared_part within ds then dropped_part within start then ticked within line
-        then test_part within test end then p.part t' then again_part within line step then one (instr.Jump (place + before))) after
-        = record { instrs = sp.instrs; after_is = sp.after_is } in
-        let first = tick_first line place after _ sp' in
-        let p1 = spans_split (Stands code) (place + 1) after n0 (all_declared_part within ds) _ (sized_all_declared within ds) first.2 in
-        let p2 = spans_split (Stands code) (place + 1 + n0) after n1 (dropped_part within start) _ (sized_dropped within start) p1.1 in
-        let second = tick_first line (place + 1 + n0 + n1) after _ p2.1 in
-        let p3 = spans_split (Stands code) (place + 1 + n0 + n1 + 1) after n2 (test_part within test end) _ (sized_test within test end) second.2 in
-        let p4 = spans_split (Stands code) (place + 1 + n0 + n1 + 1 + n2) after p.size (p.part t') _ (sized_piece p t' sized) p3.1 in
-        let low = place + 1 + n0 + n1 + 1 + n2 + p.size in
-        let p5 = spans_split (Stands code) low after n3 (again_part within line step) _ (sized_again within line step) p4.1 in
-        let back = spans_one (Stands code) (low + n3) after (instr.Jump (place + before)) p5.1 in
-        let e1 : end ≡ after = omega (arith, back.1) in
+        let end = place + (before + 1 + test_size test + p.size + again_size step + 1) in
+        let l = for_loop line ds start test step p a.whole sized covered_test covered_step fits_test fits_step has place after t sp in
         let e2 : place + 1 + n0 + n1 ≡ place + before = omega arith in
-        let e3 : place + 1 + n0 + n1 + 1 ≡ place + before + 1 = omega arith in
-        let e4 : low ≡ place + behind = omega arith in
-        let jumps = λ (less : ℕ) (r : Rest) (h : Does code s (place + before) [] less r). does_jump code s (place + before) (low + n3) [] less r back.0 h in
-        let again = over_again step line low (low + n3) (place + before) (place + behind + 2) covered_step fits_step p5.0 (ap (λ q. q + 2) e4) in
-        let l : Loop line (tested test frame line) (evaluated_if step frame line) p a.whole (place + before) (place + 1 + n0 + n1 + 1 + n2) low into end = record {
-          ticks = subst (λ q. slice_get code.instrs q ≡ Some (instr.Tick unit line)) e2 second.0;
-          tests = λ less holds fails h f. from_place code s _ _ _ _ _ e3
-              (over_test test end line (place + 1 + n0 + n1 + 1) (place + 1 + n0 + n1 + 1 + n2) less holds fails covered_test fits_test second.1 p3.0 h f);
-          piece = has;
-          stands = p4.0;
-          steps = λ less r h. (again less r (jumps less r h) h).0;
-          behinds = λ less r h. (again less r (jumps less r h) h).1;
-        } in
-        does_tick code s unit line place [] most _ first.0 (omega arith) (λ less lt. let le : less ≤ most = omega (arith, lt) in
-        over_begin ds start line (place + 1) (place + 1 + n0) (place + 1 + n0 + n1) less _ once covered_ds covered_start fits_ds fits_start first.1 p1.0 p2.0
+        does_tick code s unit line place [] most _ l.2 (omega arith) (λ less lt. let le : less ≤ most = omega (arith, lt) in
+        over_begin ds start line (place + 1) (place + 1 + n0) (place + 1 + n0 + n1) less _ once covered_ds covered_start fits_ds fits_start l.3 l.4 l.5
         (from_place code s _ _ _ _ _ (sym e2)
-        (over_loop line _ _ p a.whole _ _ _ _ end l less t exits next (leads_fewer code s most less t exits le leads)
-        (from_place code s _ _ _ _ _ (sym e1) (fewer code s after [] most less next le d)))));
+        (over_loop line _ _ p a.whole _ _ _ _ end l.0 less t exits next (leads_fewer code s most less t exits le leads)
+        (from_place code s _ _ _ _ _ (sym l.1) (fewer code s after [] most less next le d)))));
   }
-
-  -- ---- every statement
-
-  abbrev Known : Type 0
-  Known = (a : Stmt) × HasActs a
-
-  abbrev closed : Stmt-F Known → Stmt-F Stmt
-  closed y = map-Stmt Known Stmt (λ p. p.0) y
-
-  acts_all : (ss : List Known) → all_true (map (stmt_covered fs) (map (λ p. p.0) ss)) ≡ true → AllFit (joined (map pending_of (map (λ p. p.0) ss)))
-      → (place after most : ℕ) (t : Targets) (exits : Exits) (next : Rest)
-      → Spans (Stands code) place (in_order_part (map (stmt_piece within) (map (λ p. p.0) ss)) t) after
-      → Leads code s most t exits → Does code s after [] most next
-      → Does code s place [] most (run.in_order (map acts (map (λ p. p.0) ss)) frame exits next)
-  acts_all [] covered fits place after most t exits next sp leads d = from_place code s _ _ _ _ _ (spans_none (Stands code) place after sp) d
-  acts_all (a ∷ ss) covered fits place after most t exits next sp leads d =
-      let parts = spans_then (Stands code) place after ((stmt_piece within a.0).part t) _ sp in
-      let rest = joined (map pending_of (map (λ p. p.0) ss)) in
-      let others = all_true (map (stmt_covered fs) (map (λ p. p.0) ss)) in
-      (a.1 (and_left ((stmt_covered fs) a.0) others covered) (fit_front (pending_of a.0) rest fits)).by place parts.0 most t exits _ parts.1 leads
-      (acts_all ss (and_right ((stmt_covered fs) a.0) others covered) (fit_back (pending_of a.0) rest fits) parts.0 after most t exits next parts.2 leads d)
-
-  layer : (y : Stmt-F Known) → (stmt_covered_step fs) (map-Stmt Stmt Bool (stmt_covered fs) (closed y)) ≡ true
-      → AllFit (pending_step (map-Stmt Stmt (List Pending) pending_of (closed y)))
-      → ActsAs code s frame (stmt_step within (map-Stmt Stmt Piece (stmt_piece within) (closed y))) ((acts_step (map-Stmt Stmt Acts acts (closed y))).whole)
-  layer (Stmt-F.Empty line) covered fits = acts_empty line
-  layer (Stmt-F.Express line e) covered fits = acts_express line e covered fits
-  layer (Stmt-F.Declare d) covered fits = acts_declare d covered fits
-  layer (Stmt-F.Block ss) covered fits = record { by = acts_all ss covered fits }
-  layer (Stmt-F.If line e a None) covered fits =
-      let inner = and_right ((expr_covered fs) e.expr) ((stmt_covered fs) a.0 && true) covered in
-      let rest = fit_back (pending 0 e) (pending_of a.0 ++ []) fits in
-      acts_if line e (stmt_piece within a.0) (acts a.0) (has_size within a.0) (and_left ((expr_covered fs) e.expr) ((stmt_covered fs) a.0 && true) covered) (fit_front (pending 0 e) (pending_of a.0 ++ []) fits)
-      (a.1 (and_left ((stmt_covered fs) a.0) true inner) (fit_front (pending_of a.0) [] rest))
-  layer (Stmt-F.If line e a (Some b)) covered fits =
-      let inner = and_right ((expr_covered fs) e.expr) ((stmt_covered fs) a.0 && (stmt_covered fs) b.0) covered in
-      let rest = fit_back (pending 0 e) (pending_of a.0 ++ pending_of b.0) fits in
-      acts_if_else line e (stmt_piece within a.0) (stmt_piece within b.0) (acts a.0) (acts b.0) (has_size within a.0) (has_size within b.0) (and_left ((expr_covered fs) e.expr) ((stmt_covered fs) a.0 && (stmt_covered fs) b.0) covered)
-      (fit_front (pending 0 e) (pending_of a.0 ++ pending_of b.0) fits)
-      (a.1 (and_left ((stmt_covered fs) a.0) ((stmt_covered fs) b.0) inner) (fit_front (pending_of a.0) (pending_of b.0) rest))
-      (b.1 (and_right ((stmt_covered fs) a.0) ((stmt_covered fs) b.0) inner) (fit_back (pending_of a.0) (pending_of b.0) rest))
-  layer (Stmt-F.While line e a) covered fits =
-      acts_while line e (stmt_piece within a.0) (acts a.0) (has_size within a.0) (and_left ((expr_covered fs) e.expr) ((stmt_covered fs) a.0) covered) (fit_front (pending 0 e) (pending_of a.0) fits)
-      (a.1 (and_right ((expr_covered fs) e.expr) ((stmt_covered fs) a.0) covered) (fit_back (pending 0 e) (pending_of a.0) fits))
-  layer (Stmt-F.Do line a e) covered fits =
-      acts_do line (stmt_piece within a.0) e (acts a.0) (has_size within a.0) (and_left ((expr_covered fs) e.expr) ((stmt_covered fs) a.0) covered) (fit_back (pending_of a.0) (pending 0 e) fits)
-      (a.1 (and_right ((expr_covered fs) e.expr) ((stmt_covered fs) a.0) covered) (fit_front (pending_of a.0) (pending 0 e) fits))
-  layer (Stmt-F.For line ds start test step a) covered fits =
-      let c4 = (covered_if fs) step && (stmt_covered fs) a.0 in
-      let c3 = (covered_if fs) test && c4 in
-      let c2 = (covered_if fs) start && c3 in
-      let c1 = (all_declared_covered fs) ds && c2 in
-      let k1 = and_right (begins_once ds start) c1 covered in
-      let k2 = and_right ((all_declared_covered fs) ds) c2 k1 in
-      let k3 = and_right ((covered_if fs) start) c3 k2 in
-      let k4 = and_right ((covered_if fs) test) c4 k3 in
-      let g1 = flat_map in_declared ds in
-      let g2 = g1 ++ pending_if start in
-      let g3 = g2 ++ pending_if test in
-      let g4 = g3 ++ pending_if step in
-      let h4 = fit_front g4 (pending_of a.0) fits in
-      let h3 = fit_front g3 (pending_if step) h4 in
-      let h2 = fit_front g2 (pending_if test) h3 in
-      acts_for line ds start test step (stmt_piece within a.0) (acts a.0) (has_size within a.0) (and_left (begins_once ds start) c1 covered) (and_left ((all_declared_covered fs) ds) c2 k1)
-      (and_left ((covered_if fs) start) c3 k2) (and_left ((covered_if fs) test) c4 k3) (and_left ((covered_if fs) step) ((stmt_covered fs) a.0) k4)
-      (fit_front g1 (pending_if start) h2) (fit_back g1 (pending_if start) h2) (fit_back g2 (pending_if test) h3) (fit_back g3 (pending_if step) h4)
-      (a.1 (and_right ((covered_if fs) step) ((stmt_covered fs) a.0) k4) (fit_back g4 (pending_of a.0) fits))
-  layer (Stmt-F.Switch line e cases default a) covered fits = absurd (true≢false (sym covered))
-  layer (Stmt-F.Labelled label a) covered fits = acts_labelled label (stmt_piece within a.0) (acts a.0) (a.1 covered fits)
-  layer (Stmt-F.Break line) covered fits = acts_break line
-  layer (Stmt-F.Continue line) covered fits = acts_continue line
-  layer (Stmt-F.Return line e) covered fits = acts_return line e covered fits
-
-  layers : (y : Stmt-F Known) → HasActs (roll-Stmt (closed y))
-  layers y covered fits =
-      let x = closed y in
-      let has = layer y (sym (covered_roll fs x) ∙ covered) (subst AllFit (pending_roll x) fits) in
-      subst (λ p. ActsAs code s frame p ((acts (roll-Stmt x)).whole)) (sym (piece_roll within x))
-      (subst (λ a. ActsAs code s frame (stmt_step within (map-Stmt Stmt Piece (stmt_piece within) x)) (a.whole)) (sym (acts_roll x)) has)
-
-  pub has_acts : (a : Stmt) → HasActs a
-  has_acts = ind-Stmt HasActs (λ x y is. subst (λ z. HasActs (roll-Stmt z)) is (layers y))
-
-  -- the statements of a function, behind which it returns 0
-  pub does_statements : (ss : List Stmt) → all_true (map (stmt_covered fs) ss) ≡ true → AllFit (flat_map pending_of ss)
-      → (place after most : ℕ) (t : Targets) (exits : Exits)
-      → Spans (Stands code) place (in_order_part (map (stmt_piece within) ss) t) after
-      → Leads code s most t exits → Does code s after [] most (exits.on_return 0) → Does code s place [] most (statements ss frame exits)
-  does_statements [] covered fits place after most t exits sp leads d = from_place code s _ _ _ _ _ (spans_none (Stands code) place after sp) d
-  does_statements (a ∷ ss) covered fits place after most t exits sp leads d =
-      let parts = spans_then (Stands code) place after ((stmt_piece within a).part t) _ sp in
-      let rest = flat_map pending_of ss in
-      let others = all_true (map (stmt_covered fs) ss) in
-      (has_acts a (and_left ((stmt_covered fs) a) others covered) (fit_front (pending_of a) rest fits)).by place parts.0 most t exits _ parts.1 leads
-      (does_statements ss (and_right ((stmt_covered fs) a) others covered) (fit_back (pending_of a) rest fits) parts.0 after most t exits parts.2 leads d)

@@ -2,6 +2,8 @@
 use Rattle.std.proofs.Common.{◌≡◌, ◌⊎◌, inl, inr, ℕ, zero, suc, ◌+◌, ◌<◌, ◌≤◌, Bool, true, List, [], ◌∷◌, map, length, refl, sym, ap, subst, arith}
 use Rattle.std.specs.Prelude.{Option, None, Some, slice_get}
 use Rattle.rank_range.specs.declared.run.Segment.{Segment}
+use Rattle.rank_range.specs.declared.kinds.Kind.TheVariants.{UnsignedLong}
+use Rattle.rank_range.specs.declared.operators.Binary.TheVariants.{Equal}
 use Rattle.vm_code.specs.declared.instr.Instr.{Instr}
 use Rattle.vm_code.specs.declared.instr.Instr.TheVariants as instr
 use Rattle.vm_code.specs.Bounded.{target_of, is_tick, LoopsTick}
@@ -13,6 +15,7 @@ use Rattle.c_types.specs.declared.statement.Stmt.TheFolds.{ind-Stmt}
 use Rattle.c_types.specs.declared.statement.Declared.{Declared}
 use Rattle.c_types.specs.declared.statement.Span.{Span}
 use Rattle.c_types.specs.declared.statement.Store.{Store}
+use Rattle.c_types.specs.declared.statement.Case.{Case}
 use Rattle.c_types.specs.declared.statement.Stored.{Stored}
 use Rattle.c_types.specs.declared.statement.Stored.TheVariants.{Number, Structure}
 use Rattle.c_types.specs.declared.program.Program.{Program}
@@ -21,11 +24,11 @@ use Rattle.c_types.specs.declared.program.Body.{Body}
 use Rattle.c_types.specs.declared.program.Main.{Main}
 use Rattle.c_model.specs.Statements.{parameter_count}
 use Rattle.codegen.specs.Layout.{Part, nothing, one, ◌then◌}
-use Rattle.codegen.specs.Sizes.{expr_size, dropped_size, test_size, again_size, zeros_size, declared_size, all_declared_size}
-use Rattle.codegen.specs.Statements.{Within, Targets, Piece, ticked, full_part, dropped_part, test_part, zeros_part, put_part, stores_part, declared_part, all_declared_part, again_part, continue_place, in_order_part, sizes_of, stmt_step, stmt_piece, pieces_of, end_targets, body_part, function_part, function_size, functions_part, offset_in, program_part}
+use Rattle.codegen.specs.Sizes.{expr_size, dropped_size, test_size, again_size, zeros_size, declared_size, all_declared_size, cases_size}
+use Rattle.codegen.specs.Statements.{Within, Targets, Piece, ticked, full_part, dropped_part, test_part, zeros_part, put_part, stores_part, declared_part, all_declared_part, again_part, continue_place, in_order_part, sizes_of, case_part, cases_part, led_to, default_to, choice_part, stmt_step, stmt_piece, pieces_of, end_targets, body_part, function_part, function_size, functions_part, offset_in, program_part}
 use Rattle.codegen.proofs.Spanning.{HasAt, Saying, Spans, In, spans_all, spans_first}
 use Rattle.codegen.proofs.Measuring.{IsForward, Fair, measured, has_both}
-use Rattle.codegen.proofs.Shaping.{Sized, spans_split, sized_piece, sized_one, sized_full, sized_dropped, sized_test, sized_zeros, sized_declared, sized_all_declared, sized_again, sized_pieces, piece_roll, has_size}
+use Rattle.codegen.proofs.Shaping.{Sized, spans_split, spans_end, sized_piece, sized_one, sized_full, sized_dropped, sized_test, sized_zeros, sized_declared, sized_all_declared, sized_again, sized_case, sized_cases, sized_choice, sized_pieces, piece_roll, has_size}
 use Rattle.codegen.proofs.Meaning.{sized_function}
 
 module _ (instrs : List Instr) where
@@ -142,6 +145,51 @@ module _ (instrs : List Instr) where
         bounds_before (instr.Jump (place + 2)) (ticked w line then full_part w e then one instr.Pop) place
         (forwards instr.Jump place (place + 2) (λ lt. lt) (omega arith))
         (bounds_ticked line (full_part w e then one instr.Pop) (place + 1) (bounds_value e (one instr.Pop) (place + 1 + 1) (bounds_pop (place + 1 + 1 + expr_size e.expr))))
+
+    -- ---- the choice of a `switch`
+
+    bounds_case : (to : ℕ) (c : Case) (place : ℕ) → place + 6 ≤ to → Bounds place (case_part to c)
+    unfolding case_part
+    bounds_case to c place le = (
+      plain instr.Dup place (λ p. tt),
+      (
+        plain (instr.Push c.value) (place + 1) (λ p. tt),
+        (
+          plain (instr.Binary Equal UnsignedLong) (place + 1 + 1) (λ p. tt),
+          (
+            forwards instr.JumpIfZero (place + 1 + 1 + 1) (place + 6) (λ lt. lt) (omega arith),
+            (
+              plain instr.Pop (place + 1 + 1 + 1 + 1) (λ p. tt),
+              (forwards instr.Jump (place + 1 + 1 + 1 + 1 + 1) to (λ lt. lt) (omega (arith, le)), tt),
+            ),
+          ),
+        ),
+      ),
+    )
+
+    bounds_cases : (to : ℕ → ℕ) (cs : List Case) (low place : ℕ) → ((label : ℕ) → low ≤ to label) → place + cases_size cs ≤ low → Bounds place (cases_part to cs)
+    bounds_cases to [] low place least le = tt
+    bounds_cases to (c ∷ cs) low place least le =
+        let here = least c.label in
+        bounds_then (case_part (to c.label) c) (cases_part to cs) 6 place (sized_case (to c.label) c) (bounds_case (to c.label) c place (omega (arith, le, here)))
+        (bounds_cases to cs low (place + 6) least (omega (arith, le)))
+
+    led_least : (body end : ℕ) (o : Option ℕ) → body ≤ end → body ≤ led_to body end o
+    led_least body end None le = le
+    led_least body end (Some n) le = omega arith
+
+    default_least : (to : ℕ → ℕ) (end : ℕ) (o : Option ℕ) (low : ℕ) → ((label : ℕ) → low ≤ to label) → low ≤ end → low ≤ default_to to end o
+    default_least to end None low least le = le
+    default_least to end (Some label) low least le = least label
+
+    bounds_choice : (to : ℕ → ℕ) (end : ℕ) (cs : List Case) (default : Option ℕ) (low place : ℕ) → ((label : ℕ) → low ≤ to label) → low ≤ end
+        → place + cases_size cs + 2 ≤ low → Bounds place (choice_part to end cs default)
+    bounds_choice to end cs default low place least past le =
+        let n = cases_size cs in
+        let goes = default_least to end default low least past in
+        bounds_then (cases_part to cs) _ n place (sized_cases to cs) (bounds_cases to cs low place least (omega (arith, le)))
+        (bounds_before instr.Pop (one (instr.Jump (default_to to end default))) (place + n) (plain instr.Pop (place + n) (λ p. tt))
+        (forwards instr.Jump (place + n + 1) (default_to to end default) (λ lt. lt) (omega (arith, goes, le)), tt))
 
     -- where a piece's exits lead
     record Exiting (after : ℕ) (t : Targets) : Type 0 where
@@ -314,8 +362,30 @@ module _ (instrs : List Instr) where
           (bounds_then (again_part w line step) _ n3 (low + p.size) (sized_again w line step) (bounds_again line step (low + p.size))
           ((λ q e' le. ticking_jump (low + p.size + n3) (place + before) q ticks e' le), tt)))))));
     }
-    layer (Stmt-F.Switch line e cases default a) = record { by = λ place after t sp x. tt }
-    layer (Stmt-F.Labelled label a) = a.1
+    layer (Stmt-F.Switch line e cases default a) = record {
+      by = λ place after t sp x.
+          let p = stmt_piece w a.0 in
+          let n = expr_size e.expr in
+          let k = cases_size cases in
+          let front = 1 + n + k + 2 in
+          let end = place + (front + p.size) in
+          let to : ℕ → ℕ = λ label. led_to (place + front) end (p.label label) in
+          let t' : Targets = record { to_break = end; to_continue = t.to_continue } in
+          let choice = choice_part to end cases default in
+          let low = place + 1 + n + (k + 2) in
+          let sp' : Spans (In instrs) place (ticked w line then full_part w e then choice then p.part t') after = record { instrs = sp.instrs; after_is = sp.after_is } in
+          let s1 = spans_first (In instrs) place after (instr.Tick w.unit line) _ sp' in
+          let s2 = spans_split (In instrs) (place + 1) after n (full_part w e) _ (sized_full w e) s1.1 in
+          let s3 = spans_split (In instrs) (place + 1 + n) after (k + 2) choice (p.part t') (sized_choice to end cases default) s2.1 in
+          let sized = sized_piece p t' (has_size w a.0) in
+          let e1 : after ≡ low + p.size = spans_end (In instrs) low after p.size (p.part t') sized s3.1 in
+          let inner : Exiting after t' = record { on_break = omega (arith, e1); on_continue = x.on_continue } in
+          bounds_ticked line _ place (bounds_value e _ (place + 1)
+          (bounds_then choice (p.part t') (k + 2) (place + 1 + n) (sized_choice to end cases default)
+          (bounds_choice to end cases default (place + front) (place + 1 + n) (λ label. led_least (place + front) end (p.label label) (omega arith)) (omega arith) (omega arith))
+          (a.1.by low after t' s3.1 inner)));
+    }
+    layer (Stmt-F.Labelled label a) = record { by = a.1.by }
     layer (Stmt-F.Break line) = record {
       by = λ place after t sp x.
           let b = x.on_break in

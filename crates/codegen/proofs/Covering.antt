@@ -148,7 +148,7 @@ module _ (fs : List Function) where
   unfolding stmt_covered
   covered_for line ds start test step s = ap (fold-Stmt Bool (stmt_covered_step fs)) (sym (stmt.rolls-For line ds start test step s)) ∙ fold-roll-Stmt Bool (stmt_covered_step fs) (Stmt-F.For line ds start test step s)
 
-  pub covered_switch : (line : ℕ) (e : FullExpr) (cases : List Case) (default : Option ℕ) (s : Stmt) → (stmt_covered fs) (stmt.Switch line e cases default s) ≡ false
+  pub covered_switch : (line : ℕ) (e : FullExpr) (cases : List Case) (default : Option ℕ) (s : Stmt) → (stmt_covered fs) (stmt.Switch line e cases default s) ≡ ((expr_covered fs) e.expr && (stmt_covered fs) s)
   unfolding stmt_covered
   covered_switch line e cases default s = ap (fold-Stmt Bool (stmt_covered_step fs)) (sym (stmt.rolls-Switch line e cases default s)) ∙ fold-roll-Stmt Bool (stmt_covered_step fs) (Stmt-F.Switch line e cases default s)
 

@@ -7,7 +7,9 @@ pub mod Stepping
 pub mod Valuing
 pub mod Measuring
 pub mod Shaping
+pub mod Labelling
 pub mod Acting
+pub mod Following
 pub mod Meaning
 pub mod Bounding
 pub mod Adding
@@ -16,8 +18,10 @@ pub mod Sizing
 pub mod Emitting
 pub mod Pieces
 pub mod StatementSizing
+pub mod Placing
 pub mod Stating
 pub mod Turning
+pub mod Switching
 pub mod Founding
 pub mod Needing
 pub mod Refusing

@@ -32,7 +32,8 @@ use Rattle.codegen.proofs.Valuing.{DoesCalls}
 use Rattle.codegen.proofs.Calling.{ended, inside, enters, stops_call, does_return, does_leave, does_deep}
 use Rattle.codegen.proofs.Spanning.{Spans, Stands, spans_all, spans_one, spans_first}
 use Rattle.codegen.proofs.Shaping.{Sized, spans_split, sized_none, sized_one, sized_then, sized_pieces}
-use Rattle.codegen.proofs.Acting.{AllFit, does_statements, frame_in}
+use Rattle.codegen.proofs.Acting.{AllFit, frame_in}
+use Rattle.codegen.proofs.Following.{does_statements}
 
 -- where all of a simple program fit
 all_fit : (ps : List Pending) → ((p : Pending) → Contains ps p → p.need ≤ operand_limit) → AllFit ps

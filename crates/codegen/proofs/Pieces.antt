@@ -46,7 +46,7 @@ module _ (w : Within) where
       → of (stmt.Switch line e cases default s) ≡ stmt_step w (Stmt-F.Switch line e cases default (of s))
   piece_switch line e cases default s = ap of (sym (stmt.rolls-Switch line e cases default s)) ∙ piece_roll w (Stmt-F.Switch line e cases default s)
 
-  pub piece_labelled : (label : ℕ) (s : Stmt) → of (stmt.Labelled label s) ≡ of s
+  pub piece_labelled : (label : ℕ) (s : Stmt) → of (stmt.Labelled label s) ≡ stmt_step w (Stmt-F.Labelled label (of s))
   piece_labelled label s = ap of (sym (stmt.rolls-Labelled label s)) ∙ piece_roll w (Stmt-F.Labelled label s)
 
   pub piece_break : (line : ℕ) → of (stmt.Break line) ≡ stmt_step w (Stmt-F.Break line)

@@ -11,9 +11,10 @@ use Rattle.c_types.specs.declared.statement.Stmt.TheFolds.{fold-roll-Stmt, ind-S
 use Rattle.c_types.specs.declared.statement.Declared.{Declared}
 use Rattle.c_types.specs.declared.statement.Span.{Span}
 use Rattle.c_types.specs.declared.statement.Store.{Store}
+use Rattle.c_types.specs.declared.statement.Case.{Case}
 use Rattle.codegen.specs.Layout.{Part, nothing, one, ◌then◌}
-use Rattle.codegen.specs.Sizes.{expr_size, dropped_size, test_size, again_size, zeros_size, stores_size, declared_size, all_declared_size, return_size}
-use Rattle.codegen.specs.Statements.{Within, Targets, Piece, ticked, full_part, dropped_part, test_part, zeros_part, put_part, stores_part, declared_part, all_declared_part, again_part, continue_place, returned_part, in_order_part, sizes_of, stmt_step, stmt_piece}
+use Rattle.codegen.specs.Sizes.{expr_size, dropped_size, test_size, again_size, zeros_size, stores_size, declared_size, all_declared_size, return_size, cases_size}
+use Rattle.codegen.specs.Statements.{Within, Targets, Piece, ticked, full_part, dropped_part, test_part, zeros_part, put_part, stores_part, declared_part, all_declared_part, again_part, continue_place, returned_part, in_order_part, sizes_of, case_part, cases_part, led_to, default_to, choice_part, stmt_step, stmt_piece}
 use Rattle.codegen.proofs.Spanning.{Saying, Spans, spans_then}
 use Rattle.codegen.proofs.Measuring.{measured}
 
@@ -54,6 +55,21 @@ sized_then a b n m x y = record {
 
 pub sized_piece : (p : Piece) (t : Targets) → SizedPiece p → Sized (p.part t) p.size
 sized_piece p t x = record { by = λ place. x.by t place }
+
+-- ---- the choice of a `switch`
+
+pub sized_case : (to : ℕ) (c : Case) → Sized (case_part to c) 6
+unfolding case_part
+sized_case to c = record { by = λ place. refl }
+
+pub sized_cases : (to : ℕ → ℕ) (cs : List Case) → Sized (cases_part to cs) (cases_size cs)
+sized_cases to [] = sized_none
+sized_cases to (c ∷ cs) = sized_then (case_part (to c.label) c) (cases_part to cs) 6 (cases_size cs) (sized_case (to c.label) c) (sized_cases to cs)
+
+pub sized_choice : (to : ℕ → ℕ) (end : ℕ) (cs : List Case) (default : Option ℕ) → Sized (choice_part to end cs default) (cases_size cs + 2)
+sized_choice to end cs default =
+    sized_then (cases_part to cs) _ (cases_size cs) 2 (sized_cases to cs)
+    (sized_then (one instr.Pop) (one (instr.Jump (default_to to end default))) 1 1 (sized_one _) (sized_one _))
 
 module _ (w : Within) where
   pub sized_ticked : (line : ℕ) → Sized (ticked w line) 1
@@ -205,8 +221,19 @@ module _ (w : Within) where
         let all = (sized_then (ticked w line) _ 1 _ (sized_ticked line) declares).by place in
         omega (arith, all);
   }
-  layer (Stmt-F.Switch line e cases default a) = record { by = λ t place. refl }
-  layer (Stmt-F.Labelled label a) = a.1
+  layer (Stmt-F.Switch line e cases default a) = record {
+    by = λ t place.
+        let p = stmt_piece w a.0 in
+        let front = 1 + expr_size e.expr + cases_size cases + 2 in
+        let end = place + (front + p.size) in
+        let to : ℕ → ℕ = λ label. led_to (place + front) end (p.label label) in
+        let t' : Targets = record { to_break = end; to_continue = t.to_continue } in
+        let body = sized_then (choice_part to end cases default) (p.part t') (cases_size cases + 2) p.size (sized_choice to end cases default) (sized_piece p t' a.1) in
+        let value = sized_then (full_part w e) _ (expr_size e.expr) _ (sized_full e) body in
+        let all = (sized_then (ticked w line) _ 1 _ (sized_ticked line) value).by place in
+        omega (arith, all);
+  }
+  layer (Stmt-F.Labelled label a) = record { by = λ t place. a.1.by t place }
   layer (Stmt-F.Break line) = record { by = λ t place. (sized_then (ticked w line) (one (instr.Jump t.to_break)) 1 1 (sized_ticked line) (sized_one _)).by place }
   layer (Stmt-F.Continue line) = record { by = λ t place. (sized_then (ticked w line) (one (instr.Jump t.to_continue)) 1 1 (sized_ticked line) (sized_one _)).by place }
   layer (Stmt-F.Return line e) = record {

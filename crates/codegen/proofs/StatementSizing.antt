@@ -1,16 +1,17 @@
 -- Sizes of statements as they are computed, up to the greatest number of 32 bits.
-use Rattle.std.proofs.Common.{◌≡◌, ℕ, ◌+◌, ◌≤◌, min, List, [], ◌∷◌, map, take, length, refl, sym, ap, ◌∙◌, arith}
+use Rattle.std.proofs.Common.{◌≡◌, ℕ, zero, suc, ◌+◌, ◌<◌, ◌≤◌, min, add-one, List, [], ◌∷◌, map, take, length, refl, sym, ap, ◌∙◌, arith}
 use Rattle.std.specs.Prelude.{Option, None, Some}
 use Rattle.c_types.specs.declared.expression.FullExpr.{FullExpr}
 use Rattle.c_types.specs.declared.statement.Stmt.{Stmt}
 use Rattle.c_types.specs.declared.statement.Stmt.TheVariants as stmt
 use Rattle.c_types.specs.declared.statement.Declared.{Declared}
 use Rattle.c_types.specs.declared.statement.Store.{Store}
-use Rattle.codegen.specs.Sizes.{total, expr_size, dropped_size, test_size, again_size, return_size, zeros_size, stores_size, declared_size, all_declared_size}
+use Rattle.c_types.specs.declared.statement.Case.{Case}
+use Rattle.codegen.specs.Sizes.{total, expr_size, dropped_size, test_size, again_size, return_size, zeros_size, stores_size, declared_size, all_declared_size, cases_size}
 use Rattle.codegen.specs.Statements.{Within, Piece, stmt_piece, sizes_of}
 use Rattle.codegen.specs.Making.{at_most_word}
 use Rattle.codegen.proofs.Sizing.{cut_sum, cut_more, cut_is, size_all}
-use Rattle.codegen.proofs.Pieces.{piece_if, piece_if_else, piece_while, piece_do, piece_for, piece_labelled, piece_return, piece_express, piece_block}
+use Rattle.codegen.proofs.Pieces.{piece_if, piece_if_else, piece_while, piece_do, piece_for, piece_switch, piece_labelled, piece_return, piece_express, piece_block}
 
 -- the same at an equal value
 pub size_at : {A : Type 0} (f : A → ℕ) (x y : A) (n : ℕ) → x ≡ y → n ≡ at_most_word (f y) → n ≡ at_most_word (f x)
@@ -41,6 +42,34 @@ declared_total (d ∷ ds) = ap (λ n. declared_size d + n) (declared_total ds)
 
 pub declared_all : (ds : List Declared) (i x : ℕ) → length ds ≤ i → x ≡ at_most_word (total (map declared_size (take i ds))) → x ≡ at_most_word (all_declared_size ds)
 declared_all ds i x past x_is = cut_is x _ _ (size_all declared_size ds i x past x_is) (declared_total ds)
+
+-- ---- cases
+
+abbrev pub case_size : Case → ℕ
+case_size c = 6
+
+cases_total : (cs : List Case) → total (map case_size cs) ≡ cases_size cs
+cases_total [] = refl
+cases_total (c ∷ cs) = ap (λ n. 6 + n) (cases_total cs)
+
+cases_push : (cs : List Case) (i : ℕ) → i < length cs → total (map case_size (take (suc i) cs)) ≡ total (map case_size (take i cs)) + 6
+cases_push [] i lt = absurd (omega (arith, lt))
+cases_push (c ∷ cs) zero lt = omega arith
+cases_push (c ∷ cs) (suc i) lt = let rest = cases_push cs i (omega (arith, lt)) in omega (arith, rest)
+
+pub cases_next : (cs : List Case) (i x z : ℕ) → i < length cs → x ≡ at_most_word (total (map case_size (take i cs))) → z ≡ min (x + 6) 4294967295
+    → z ≡ at_most_word (total (map case_size (take (i + 1) cs)))
+cases_next cs i x z within x_is z_is =
+    cut_more x z _ 6 x_is z_is ∙ ap at_most_word (sym (ap (λ n. total (map case_size (take n cs))) (add-one i) ∙ cases_push cs i within))
+
+pub cases_all : (cs : List Case) (i x : ℕ) → length cs ≤ i → x ≡ at_most_word (total (map case_size (take i cs))) → x ≡ at_most_word (cases_size cs)
+cases_all cs i x past x_is = cut_is x _ _ (size_all case_size cs i x past x_is) (cases_total cs)
+
+-- a `for` before its body
+pub for_front_is : (ds : List Declared) (start test : Option FullExpr) (a b c x y n : ℕ) → a ≡ at_most_word (all_declared_size ds) → b ≡ at_most_word (dropped_size start)
+    → c ≡ at_most_word (dropped_size test) → x ≡ min (a + b) 4294967295 → y ≡ min (x + c) 4294967295 → n ≡ min (y + 2) 4294967295
+    → n ≡ at_most_word (all_declared_size ds + dropped_size start + dropped_size test + 2)
+for_front_is ds start test a b c x y n a_is b_is c_is x_is y_is n_is = cut_more y n _ 2 (cut_sum x c y _ _ (cut_sum a b x _ _ a_is b_is x_is) c_is y_is) n_is
 
 -- a `for` without its body
 pub for_is : (ds : List Declared) (start test step : Option FullExpr) (a b c d x y z n : ℕ) → a ≡ at_most_word (all_declared_size ds) → b ≡ at_most_word (dropped_size start)
@@ -115,6 +144,15 @@ module _ (w : Within) where
       cut_sum x y n _ _ front (body_is b b' y same y_is) n_is in
       let t = test_is_dropped test in
       piece_arm s _ _ n is (piece_for w line ds start test step b) (cut_is n _ _ all (omega (arith, t)))
+
+  pub switch_arm : (s b b' : Stmt) (line : ℕ) (e : FullExpr) (cases cases' : List Case) (default : Option ℕ) (x y z u v n : ℕ) → s ≡ stmt.Switch line e cases default b → cases' ≡ cases
+      → b' ≡ b → x ≡ at_most_word (expr_size e.expr) → y ≡ at_most_word (cases_size cases') → z ≡ min (x + y) 4294967295 → u ≡ at_most_word (stmt_sized b')
+      → v ≡ min (z + u) 4294967295 → n ≡ min (v + 3) 4294967295 → n ≡ at_most_word (stmt_sized s)
+  switch_arm s b b' line e cases cases' default x y z u v n is cases_are same x_is y_is z_is u_is v_is n_is =
+      let y' : y ≡ at_most_word (cases_size cases) = y_is ∙ ap (λ l. at_most_word (cases_size l)) cases_are in
+      let all : n ≡ at_most_word (expr_size e.expr + cases_size cases + stmt_sized b + 3) =
+      cut_more v n _ 3 (cut_sum z u v _ _ (cut_sum x y z _ _ x_is y' z_is) (body_is b b' u same u_is) v_is) n_is in
+      piece_arm s _ _ n is (piece_switch w line e cases default b) (cut_is n _ _ all (omega arith))
 
   pub labelled_arm : (s b b' : Stmt) (label n : ℕ) → s ≡ stmt.Labelled label b → b' ≡ b → n ≡ at_most_word (stmt_sized b') → n ≡ at_most_word (stmt_sized s)
   labelled_arm s b b' label n is same n_is = piece_arm s _ _ n is (piece_labelled w label b) (body_is b b' n same n_is)

@@ -1,4 +1,4 @@
--- The programs whose code is shown to mean them: each call is of a function with a body, and there is no `switch`.
+-- The programs whose code is shown to mean them: each call is of a function with a body.
 use Rattle.std.specs.Prelude.{ℕ, is_some, ◌≡◌, ◌≤◌, ◌&&◌, Bool, true, false, List, [], ◌∷◌, length, map, Option, None, Some, slice_get}
 use Rattle.c_types.specs.declared.expression.Operand.TheOpen.{Operand-F, Step-F, Expr-F}
 use Rattle.c_types.specs.declared.expression.Operand.{Operand, fold-Operand}
@@ -102,7 +102,7 @@ stmt_covered_step fs (Stmt-F.While line e b) = expr_covered fs e.expr && b
 stmt_covered_step fs (Stmt-F.Do line b e) = expr_covered fs e.expr && b
 stmt_covered_step fs (Stmt-F.For line ds start test step b) =
     begins_once ds start && (all_declared_covered fs ds && (covered_if fs start && (covered_if fs test && (covered_if fs step && b))))
-stmt_covered_step fs (Stmt-F.Switch line e cases default b) = false
+stmt_covered_step fs (Stmt-F.Switch line e cases default b) = expr_covered fs e.expr && b
 stmt_covered_step fs (Stmt-F.Labelled label b) = b
 stmt_covered_step fs (Stmt-F.Break line) = true
 stmt_covered_step fs (Stmt-F.Continue line) = true

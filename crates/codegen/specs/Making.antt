@@ -1,14 +1,15 @@
 -- What a step in the making of code adds to it.
-use Rattle.std.specs.Prelude.{ℕ, ◌≡◌, ◌+◌, ◌<◌, ◌^◌, ◌++◌, min, length, Option}
+use Rattle.std.specs.Prelude.{ℕ, ◌≡◌, ◌+◌, ◌<◌, ◌^◌, ◌++◌, min, List, length, Option, None, Some}
 use Rattle.rank_range.specs.declared.run.Segment.{Segment}
 use Rattle.vm_code.specs.declared.instr.Instr.TheVariants.{Pop, Local, Jump, JumpIfZero}
 use Rattle.c_types.specs.declared.expression.FullExpr.{FullExpr}
 use Rattle.c_types.specs.declared.statement.Store.{Store}
+use Rattle.c_types.specs.declared.statement.Case.{Case}
 use Rattle.codegen.specs.declared.draft.Draft.{Draft}
 use Rattle.codegen.specs.declared.statements.Places.{Places}
 use Rattle.codegen.specs.Layout.{Part, one, ◌then◌}
-use Rattle.codegen.specs.Sizes.{expr_size, test_size, again_size}
-use Rattle.codegen.specs.Statements.{Within, Piece, Targets, ticked, full_part, put_part, test_part, again_part, continue_place, offset_in}
+use Rattle.codegen.specs.Sizes.{expr_size, test_size, again_size, cases_size}
+use Rattle.codegen.specs.Statements.{Within, Piece, Targets, ticked, full_part, put_part, test_part, again_part, continue_place, led_to, choice_part, offset_in}
 
 -- A part was added behind what was there: so many instructions in any case, and just these where all places are numbers of 32
 -- bits.
@@ -23,6 +24,11 @@ at_most_word n = min n 4294967295
 -- what is around a statement of this unit
 abbrev pub within : ℕ → Segment → Within
 within unit segment = record { unit = unit; object = offset_in segment }
+
+-- the same of one that may be missing
+abbrev pub cut : Option ℕ → Option ℕ
+cut None = None
+cut (Some n) = Some (at_most_word n)
 
 -- where `break` and `continue` lead
 abbrev pub targets_of : Places → Targets
@@ -56,3 +62,25 @@ abbrev pub for_turns_part : Within → ℕ → Option FullExpr → Option FullEx
 for_turns_part w line test step s = λ place.
     for_turns_to w line test step s (place + for_turns_size test step s) place
     (continue_place step place (place + 1 + test_size test + s.size + 2)) place
+
+-- where a label of a body leads that begins at the one place and ends at the other, up to the greatest number of 32 bits
+abbrev pub cut_to : ℕ → ℕ → Option ℕ → ℕ
+cut_to start end None = end
+cut_to start end (Some n) = at_most_word (start + n)
+
+abbrev pub label_to : ℕ → ℕ → Piece → ℕ → ℕ
+label_to start end s label = cut_to start end (cut (s.label label))
+
+-- a `switch` behind its value: the choice, and the body
+abbrev pub switch_to : (ℕ → ℕ) → ℕ → ℕ → List Case → Option ℕ → Piece → Part
+switch_to to end to_continue cases default s =
+    choice_part to end cases default then s.part (record { to_break = end; to_continue = to_continue })
+
+abbrev pub switch_front : List Case → ℕ
+switch_front cases = cases_size cases + 2
+
+abbrev pub switch_part : Targets → List Case → Option ℕ → Piece → Part
+switch_part t cases default s = λ place.
+    let body : ℕ = place + switch_front cases in
+    let end : ℕ = body + s.size in
+    switch_to (λ label. led_to body end (s.label label)) end t.to_continue cases default s place

@@ -10,6 +10,7 @@ use Rattle.c_types.specs.declared.expression.FullExpr.{FullExpr}
 use Rattle.c_types.specs.declared.statement.Declared.{Declared}
 use Rattle.c_types.specs.declared.statement.Span.{Span}
 use Rattle.c_types.specs.declared.statement.Store.{Store}
+use Rattle.c_types.specs.declared.statement.Case.{Case}
 
 abbrev pub total : List ℕ → ℕ
 total [] = 0
@@ -96,3 +97,8 @@ all_declared_size (d ∷ ds) = declared_size d + all_declared_size ds
 abbrev pub return_size : Option FullExpr → ℕ
 return_size None = 1
 return_size (Some e) = expr_size e.expr
+
+-- the choice among the cases of a `switch`
+abbrev pub cases_size : List Case → ℕ
+cases_size [] = 0
+cases_size (c ∷ cs) = 6 + cases_size cs

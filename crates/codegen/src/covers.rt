@@ -1,4 +1,4 @@
-//! Whether a program is covered: each call is of a function with a body, and there is no `switch`.
+//! Whether a program is covered: each call is of a function with a body.
 
 ghost use Rattle.std.specs.Prelude.{◌≡◌, ◌&&◌, map, MatchBool};
 ghost use Rattle.codegen.specs.Covered.{all_true, operand_is_covered, step_is_covered, expr_covered, covered_if, stores_covered, all_declared_covered, begins_once, stmt_covered, has_body, body_covered, function_covered, IsCovered, IsMainBody};
@@ -223,7 +223,12 @@ fn covers_stmt(functions: &[Function], stmt: &Stmt) -> bool
             step,
             covers_stmt(functions, body.get()),
         ),
-        Stmt::Switch { .. } => false,
+        Stmt::Switch { value, body, .. } => {
+            both(
+                covers_expr(functions, &value.expr),
+                covers_stmt(functions, body.get()),
+            )
+        }
         Stmt::Labelled { body, .. } => covers_stmt(functions, body.get()),
         Stmt::Break { .. } => true,
         Stmt::Continue { .. } => true,

@@ -9,6 +9,7 @@ mod draft;
 mod error;
 mod expressions;
 mod functions;
+mod labels;
 mod laws;
 mod need;
 mod sizes;
@@ -36,8 +37,7 @@ const TOO_MANY: usize = 4_294_967_296;
 ///
 /// `TooComplex` where more than 32 values are pending at once in a full expression (this profile's own limit), with the first
 /// token of the first such one. `NoMain` where the program has no `main`. `NotCovered` where `main` has no body or more than two
-/// parameters, where a function without a body is called, or where there is a `switch`, or a `for` that begins with declarators and an
-/// expression both.
+/// parameters, where a function without a body is called, or where a `for` begins with declarators and an expression both.
 /// `TooLong` where the code would have 2^32 instructions or more. `Memory` where no memory is left; it is asked for only where
 /// none of the first three is to be told.
 pub fn generate(alloc: Global, program: &Program, segment: &Segment) -> Result<Code, GenError>

@@ -2,11 +2,11 @@
 
 ghost use Rattle.std.specs.Prelude.{◌≡◌, ◌+◌, map};
 ghost use Rattle.codegen.specs.Statements.{Within, stmt_piece, sizes_of};
-ghost use Rattle.codegen.specs.Sizes.{dropped_size, again_size, zeros_size, return_size, all_declared_size, stores_size, declared_size};
+ghost use Rattle.codegen.specs.Sizes.{dropped_size, again_size, zeros_size, return_size, all_declared_size, stores_size, declared_size, cases_size};
 ghost use Rattle.codegen.specs.Making.{at_most_word};
 
 use crate::sizes::expr_size;
-use c_types::{Declared, FullExpr, Span, Stmt, Store};
+use c_types::{Case, Declared, FullExpr, Span, Stmt, Store};
 
 /// Of a full expression with one instruction behind it, where it is there.
 pub fn with_one(value: &Option<FullExpr>) -> u32
@@ -74,6 +74,17 @@ fn all_declared_size(all: &[Declared]) -> u32
     size
 }
 
+/// Of the choice among the cases of a `switch`.
+pub fn cases_size(cases: &[Case]) -> u32
+    ensures { result ≡ at_most_word (cases_size cases.now) }
+{
+    let mut size: u32 = 0;
+    for _case in cases {
+        size = size.saturating_add(6);
+    }
+    size
+}
+
 #[cycle(stmt_size)]
 pub fn all_size(stmts: &[Stmt]) -> u32
     ensures { (w : Within) → result ≡ at_most_word (sizes_of (map (stmt_piece w) stmts.now)) }
@@ -122,7 +133,15 @@ pub fn stmt_size(stmt: &Stmt) -> u32
             body,
             ..
         } => for_size(declared.as_slice(), start, test, step).saturating_add(stmt_size(body.get())),
-        Stmt::Switch { .. } => 0,
+        Stmt::Switch {
+            value,
+            cases,
+            body,
+            ..
+        } => expr_size(&value.expr)
+            .saturating_add(cases_size(cases.as_slice()))
+            .saturating_add(stmt_size(body.get()))
+            .saturating_add(3),
         Stmt::Labelled { body, .. } => stmt_size(body.get()),
         Stmt::Break { .. } => 2,
         Stmt::Continue { .. } => 2,
@@ -144,4 +163,14 @@ fn for_size(
         .saturating_add(with_one(test))
         .saturating_add(again_size(step))
         .saturating_add(3)
+}
+
+/// Of a `for` before its body.
+pub fn for_front(declared: &[Declared], start: &Option<FullExpr>, test: &Option<FullExpr>) -> u32
+    ensures { result ≡ at_most_word (all_declared_size declared.now + dropped_size start.now + dropped_size test.now + 2) }
+{
+    all_declared_size(declared)
+        .saturating_add(with_one(start))
+        .saturating_add(with_one(test))
+        .saturating_add(2)
 }

@@ -3,15 +3,16 @@
 ghost use Rattle.std.specs.Prelude.{◌≡◌, OnOk, None, Some, map};
 ghost use Rattle.vm_code.specs.declared.instr.Instr.TheVariants.{Tick, Pop, Return, JumpIfZero as InstrJumpIfZero, Jump as InstrJump};
 ghost use Rattle.codegen.specs.Layout.{one, ◌then◌, over};
-ghost use Rattle.codegen.specs.Statements.{ticked, full_part, dropped_part, put_part, zeros_part, stores_part, declared_part, all_declared_part, test_part, again_part, continue_place, returned_part, in_order_part, stmt_piece};
-ghost use Rattle.codegen.specs.Making.{Adds, within, targets_of, store_part, turns_part, for_turns_part};
+ghost use Rattle.codegen.specs.Statements.{ticked, full_part, dropped_part, put_part, zeros_part, stores_part, declared_part, all_declared_part, test_part, again_part, continue_place, returned_part, in_order_part, stmt_piece, Within, case_part, cases_part, default_to};
+ghost use Rattle.codegen.specs.Making.{Adds, within, targets_of, store_part, turns_part, for_turns_part, cut_to, label_to, switch_part};
 
 use crate::draft::Draft;
 use crate::expressions::emit_expr;
+use crate::labels::label_of;
 use crate::sizes::expr_size;
-use crate::statement_sizes::{again_size, stmt_size, with_one};
-use c_types::{Declared, FullExpr, Span, Stmt, Store, Stored};
-use rank_range::Segment;
+use crate::statement_sizes::{again_size, cases_size, stmt_size, with_one};
+use c_types::{Case, Declared, FullExpr, Span, Stmt, Store, Stored};
+use rank_range::{Binary, Segment};
 use std::alloc::AllocError;
 use vm_code::Instr;
 
@@ -238,6 +239,68 @@ fn continue_place(step: &Option<FullExpr>, test: u32, again: u32) -> u32
     }
 }
 
+/// The place in a body that begins at the one place and ends at the other: its end, where there is none.
+fn led_to(start: u32, end: u32, place: Option<u32>) -> u32
+    ensures { result ≡ cut_to start end place }
+{
+    match place {
+        None => end,
+        Some(before) => start.saturating_add(before),
+    }
+}
+
+/// Goes to a place where the value of a `switch` is that of a case.
+fn emit_case(draft: &mut Draft, case: &Case, to: u32) -> Result<(), AllocError>
+    ensures { OnOk result (Adds draft.old draft.new (case_part to case.now)) }
+{
+    let next = draft.ahead(6);
+    draft.put(Instr::Dup)?;
+    draft.put(Instr::Push(case.value))?;
+    draft.put_words(Binary::Equal)?;
+    draft.put(Instr::JumpIfZero(next))?;
+    draft.put(Instr::Pop)?;
+    draft.put(Instr::Jump(to))
+}
+
+/// Goes to a case of a `switch` with this body, which begins at the one place and ends at the other.
+fn emit_choice(
+    draft: &mut Draft,
+    case: &Case,
+    start: u32,
+    end: u32,
+    body: &Stmt,
+) -> Result<(), AllocError>
+    ensures { OnOk result ((w : Within) → Adds draft.old draft.new (case_part (label_to start end (stmt_piece w body.now) case.now.label) case.now)) }
+{
+    emit_case(draft, case, led_to(start, end, label_of(body, case.label)))
+}
+
+/// The cases of a `switch` with this body, which begins at the one place and ends at the other.
+fn emit_cases(
+    draft: &mut Draft,
+    cases: &[Case],
+    start: u32,
+    end: u32,
+    body: &Stmt,
+) -> Result<(), AllocError>
+    ensures { OnOk result ((w : Within) → Adds draft.old draft.new (cases_part (label_to start end (stmt_piece w body.now)) cases.now)) }
+{
+    for case in cases {
+        emit_choice(draft, case, start, end, body)?;
+    }
+    Ok(())
+}
+
+/// Where a `switch` goes on whose value no case has.
+fn default_place(default: Option<u32>, start: u32, end: u32, body: &Stmt) -> u32
+    ensures { (w : Within) → result ≡ default_to (label_to start end (stmt_piece w body.now)) end default }
+{
+    match default {
+        None => end,
+        Some(label) => led_to(start, end, label_of(body, label)),
+    }
+}
+
 /// The statements in order.
 #[cycle(stmt)]
 pub fn emit_stmts(
@@ -342,6 +405,32 @@ fn emit_for_turns(
     draft.put(Instr::Jump(start))
 }
 
+/// A `switch` behind its value: the choice among its cases, and its body.
+#[cycle(stmt)]
+fn emit_switch(
+    draft: &mut Draft,
+    segment: &Segment,
+    unit: u8,
+    places: Places,
+    cases: &[Case],
+    default: Option<u32>,
+    body: &Stmt,
+) -> Result<(), AllocError>
+    ensures { OnOk result (Adds draft.old draft.new (switch_part (targets_of places) cases.now default (stmt_piece (within unit segment.now) body.now))) }
+{
+    let front = cases_size(cases).saturating_add(2);
+    let start = draft.ahead(front);
+    let end = draft.ahead(front.saturating_add(stmt_size(body)));
+    emit_cases(draft, cases, start, end, body)?;
+    draft.put(Instr::Pop)?;
+    draft.put(Instr::Jump(default_place(default, start, end, body)))?;
+    let inner = Places {
+        to_break: end,
+        to_continue: places.to_continue,
+    };
+    emit_stmt(draft, segment, unit, inner, body)
+}
+
 #[cycle(stmt)]
 fn emit_stmt(
     draft: &mut Draft,
@@ -397,7 +486,24 @@ fn emit_stmt(
             emit_dropped(draft, segment, unit, start)?;
             emit_for_turns(draft, segment, unit, *line, test, step, body.get())
         }
-        Stmt::Switch { .. } => Ok(()),
+        Stmt::Switch {
+            line,
+            value,
+            cases,
+            default,
+            body,
+        } => {
+            emit_ticked(draft, segment, unit, *line, value)?;
+            emit_switch(
+                draft,
+                segment,
+                unit,
+                places,
+                cases.as_slice(),
+                *default,
+                body.get(),
+            )
+        }
         Stmt::Labelled { body, .. } => emit_stmt(draft, segment, unit, places, body.get()),
         Stmt::Break { line } => emit_jump(draft, unit, *line, places.to_break),
         Stmt::Continue { line } => emit_jump(draft, unit, *line, places.to_continue),

@@ -1,7 +1,6 @@
-int main(void) {
-  int a = 1;
-  switch (a) {
-    case 1: return 3;
-  }
+#include <mpi.h>
+int main(int argc, char **argv) {
+  MPI_Init(&argc, &argv);
+  MPI_Finalize();
   return 0;
 }

@@ -53,7 +53,7 @@ covers_stmt-returns-in-For t c =
 
 pub covers_stmt-returns-in-Switch : goal.covers_stmt-returns-in-Switch
 covers_stmt-returns-in-Switch t c =
-    same_test (stmt_covered c.args.functions.now) _ _ _ _ c.in-Switch.is (covered_switch c.args.functions.now _ _ _ _ _) refl
+    same_test (stmt_covered c.args.functions.now) _ _ _ _ c.in-Switch.is (covered_switch c.args.functions.now _ _ _ _ _) (both_are _ _ _ _ _ c.covers_expr-in-Switch.ensures (test_at (stmt_covered c.args.functions.now) _ _ _ c.get-in-Switch.ensures c.covers_stmt-in-Switch.ensures) c.both-in-Switch.ensures)
 
 pub covers_stmt-returns-in-Labelled : goal.covers_stmt-returns-in-Labelled
 covers_stmt-returns-in-Labelled t c =

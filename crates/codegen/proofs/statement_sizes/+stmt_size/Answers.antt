@@ -1,7 +1,7 @@
 use Rattle.std.proofs.Common.{refl}
 use Rattle.codegen.proofs.Sizing.{size_next}
-use Rattle.codegen.proofs.Pieces.{piece_empty, piece_declare, piece_switch, piece_break, piece_continue}
-use Rattle.codegen.proofs.StatementSizing.{stmt_sized, stmts_all, piece_arm, express_arm, block_arm, if_arm, if_else_arm, while_arm, do_arm, for_arm, labelled_arm, return_arm}
+use Rattle.codegen.proofs.Pieces.{piece_empty, piece_declare, piece_break, piece_continue}
+use Rattle.codegen.proofs.StatementSizing.{stmt_sized, stmts_all, piece_arm, express_arm, block_arm, if_arm, if_else_arm, while_arm, do_arm, for_arm, switch_arm, labelled_arm, return_arm}
 use Rattle.codegen.proofs.statement_sizes.+stmt_size.Goals as goal
 
 pub all_size-loop-stmt-preserved : goal.all_size-loop-stmt-preserved
@@ -47,7 +47,9 @@ stmt_size-returns-in-For t c w =
     for_arm w _ _ _ _ _ _ _ _ _ _ _ _ c.in-For.is c.as_slice-in-For.ensures c.get-in-For.ensures c.for_size.ensures (c.stmt_size-in-For.ensures w) c.saturating_add-in-For.ensures
 
 pub stmt_size-returns-in-Switch : goal.stmt_size-returns-in-Switch
-stmt_size-returns-in-Switch t c w = piece_arm w _ _ _ _ c.in-Switch.is (piece_switch w _ _ _ _ _) refl
+stmt_size-returns-in-Switch t c w =
+    switch_arm w _ _ _ _ _ _ _ _ _ _ _ _ _ _ c.in-Switch.is c.as_slice-in-Switch.ensures c.get-in-Switch.ensures c.expr_size-in-Switch.ensures c.cases_size.ensures
+    c.saturating_add-in-Switch.ensures (c.stmt_size-in-Switch.ensures w) c.saturating_add-in-Switch-2.ensures c.saturating_add-in-Switch-3.ensures
 
 pub stmt_size-returns-in-Labelled : goal.stmt_size-returns-in-Labelled
 stmt_size-returns-in-Labelled t c w = labelled_arm w _ _ _ _ _ c.in-Labelled.is c.get-in-Labelled.ensures (c.stmt_size-in-Labelled.ensures w)

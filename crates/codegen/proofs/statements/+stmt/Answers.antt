@@ -3,8 +3,9 @@ use Rattle.vm_code.specs.declared.instr.Instr.TheVariants as instr
 use Rattle.codegen.specs.Making.{within, targets_of}
 use Rattle.codegen.proofs.Adding.{adds_none}
 use Rattle.codegen.proofs.Emitting.{adds_next}
-use Rattle.codegen.proofs.Pieces.{piece_empty, piece_express, piece_declare, piece_switch, piece_break, piece_continue, piece_return}
+use Rattle.codegen.proofs.Pieces.{piece_empty, piece_express, piece_declare, piece_break, piece_continue, piece_return}
 use Rattle.codegen.proofs.Stating.{part_of, stmts_add, stmt_named, block_adds, labelled_adds, over_last, if_adds, if_else_adds}
+use Rattle.codegen.proofs.Switching.{switch_emits, switch_adds}
 use Rattle.codegen.proofs.Turning.{turns_add, for_turns_add, while_adds, do_adds, for_adds}
 use Rattle.codegen.proofs.statements.+stmt.Goals as goal
 
@@ -73,9 +74,17 @@ pub emit_stmt-returns-in_ok-emit_dropped-in-For : goal.emit_stmt-returns-in_ok-e
 emit_stmt-returns-in_ok-emit_dropped-in-For t c =
     on_ok_weaker c.emit_for_turns.result (λ h. for_adds (within c.args.unit c.args.segment.now) _ _ _ _ _ _ _ _ _ _ _ _ _ _ (targets_of c.args.places) c.in-For.is c.as_slice-in-For.ensures c.get-in-For.ensures c.in_ok-emit_tick-in-For.ensures c.in_ok-emit_all_declared-in-For.ensures c.in_ok-emit_dropped-in-For.ensures h) c.emit_for_turns.ensures
 
-pub emit_stmt-returns-in-Switch : goal.emit_stmt-returns-in-Switch
-emit_stmt-returns-in-Switch t c =
-    stmt_named (within c.args.unit c.args.segment.now) _ _ _ _ _ (targets_of c.args.places) c.in-Switch.is (piece_switch (within c.args.unit c.args.segment.now) _ _ _ _ _) (adds_none _)
+pub emit_switch-returns : goal.emit_switch-returns
+emit_switch-returns t c =
+    on_ok_weaker c.emit_stmt.result (λ h. switch_emits (within c.args.unit c.args.segment.now) _ _ _ _ _ c.args.cases.now c.args.default c.args.body.now (targets_of c.args.places) _ _ _ _ _ _ _
+    c.cases_size.ensures c.saturating_add-front.ensures c.ahead-start.ensures (c.stmt_size.ensures (within c.args.unit c.args.segment.now)) c.saturating_add.ensures c.ahead-end.ensures
+    (c.default_place.ensures (within c.args.unit c.args.segment.now)) (c.in_ok-emit_cases.ensures (within c.args.unit c.args.segment.now)) c.in_ok-put.ensures c.in_ok-put-2.ensures h)
+    c.emit_stmt.ensures
+
+pub emit_stmt-returns-in_ok-emit_ticked-in-Switch : goal.emit_stmt-returns-in_ok-emit_ticked-in-Switch
+emit_stmt-returns-in_ok-emit_ticked-in-Switch t c =
+    on_ok_weaker c.emit_switch.result (λ h. switch_adds (within c.args.unit c.args.segment.now) _ _ _ _ _ _ _ _ _ _ _ (targets_of c.args.places) c.in-Switch.is c.as_slice-in-Switch.ensures
+    c.get-in-Switch.ensures c.in_ok-emit_ticked-in-Switch.ensures h) c.emit_switch.ensures
 
 pub emit_stmt-returns-in-Labelled : goal.emit_stmt-returns-in-Labelled
 emit_stmt-returns-in-Labelled t c =
